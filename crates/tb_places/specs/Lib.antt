@@ -1,1 +1,3 @@
+pub mod Along
+pub mod Inverse
 pub mod Places

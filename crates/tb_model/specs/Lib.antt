@@ -1,0 +1,5 @@
+pub mod Mesh
+pub mod Refinement
+pub mod Energy
+pub mod Soundness
+pub mod Values

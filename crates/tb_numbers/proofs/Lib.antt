@@ -1,0 +1,7 @@
+pub mod Digits
+pub mod Divisions
+pub mod Padded
+pub mod Powers
+pub mod QuotientLaws
+pub mod Signs
+pub mod Sums

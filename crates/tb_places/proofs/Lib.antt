@@ -1,0 +1,9 @@
+pub mod Bounds
+pub mod Cells
+pub mod Edges
+pub mod Faces
+pub mod Meeting
+pub mod Nodes
+pub mod Rows
+pub mod Runs
+pub mod Steps

@@ -1,0 +1,13 @@
+//! The commands of the calculator: words and a source of bytes in, one text and a status out.
+//!
+//! A run has two halves. `work` reads the words and the source and says what is to be told, and takes all
+//! memory that the run needs. `tell` writes it.
+#![tactic(auto)]
+
+mod status;
+mod telling;
+mod top;
+
+pub use status::Status;
+pub use telling::Told;
+pub use top::run;
