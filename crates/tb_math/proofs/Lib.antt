@@ -17,4 +17,4 @@ pub mod SumsOfCeilings
 pub mod QuadraticForms
 pub mod CutForms
 pub mod LineLaws
-pub mod InverseLaws
+pub mod DivisionLaws

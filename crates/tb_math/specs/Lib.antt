@@ -4,4 +4,4 @@ pub mod FractionEquality
 pub mod Rational
 pub mod Sums
 pub mod Ceiling
-pub mod Inverse
+pub mod Division

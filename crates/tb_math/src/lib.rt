@@ -3,7 +3,10 @@
 #![tactic(auto)]
 
 ghost use Rattle.std.specs.Prelude.{◌≡◌, ◌↔◌, ◌⊎◌, ℕ, ◌<◌, ℤ, pos, ◌+ℤ◌, ◌*ℤ◌, ◌≤ℤ◌};
-ghost use Rattle.tb_math.specs.Rational.{ℚ, int, one_over, ◌+ℚ◌, ◌*ℚ◌, neg_ℚ, ◌-ℚ◌, ◌≤ℚ◌, ◌<ℚ◌};
+ghost use Rattle.tb_math.specs.Ceiling.{RoundsUp, ceiling};
+ghost use Rattle.tb_math.specs.Division.{inverse, ◌/ℚ◌};
+ghost use Rattle.tb_math.specs.Rational.{ℚ, int, one_over, ratio, ◌+ℚ◌, ◌*ℚ◌, neg_ℚ, ◌-ℚ◌, ◌≤ℚ◌, ◌<ℚ◌};
+ghost use Rattle.tb_math.specs.Sums.{total, total_ℤ};
 
 /// The rational numbers are a commutative ring, and each natural number but 0 has its inverse there.
 pub fn rationals_are_a_ring()
@@ -35,4 +38,32 @@ pub fn rationals_are_ordered()
     ensures sums { (p q r s : ℚ) → p ≤ℚ q → r ≤ℚ s → p +ℚ r ≤ℚ q +ℚ s }
     ensures products { (k p q : ℚ) → int (pos 0) ≤ℚ k → p ≤ℚ q → k *ℚ p ≤ℚ k *ℚ q }
     ensures squares { (p : ℚ) → int (pos 0) ≤ℚ p *ℚ p }
+{}
+
+/// Each rational number but 0 has an inverse, that of a product is the product of the inverses, and that of 0 is 0.
+pub fn rationals_divide()
+    ensures cancels { (q : ℚ) → (q ≡ int (pos 0) → ⊥) → q /ℚ q ≡ int (pos 1) }
+    ensures products { (p q : ℚ) → inverse (p *ℚ q) ≡ inverse p *ℚ inverse q }
+    ensures zero { inverse (int (pos 0)) ≡ int (pos 0) }
+    ensures one_over_natural { (n : ℕ) → inverse (int (pos n)) ≡ one_over n }
+{}
+
+/// The ceiling of q is the one whole number c with q ≤ c < q + 1, and of all whole numbers that are not below q the least.
+pub fn ceilings_round_up()
+    ensures above { (q : ℚ) → q ≤ℚ int (ceiling q) }
+    ensures below { (q : ℚ) → int (ceiling q) <ℚ q +ℚ int (pos 1) }
+    ensures unique { (q : ℚ) (c : ℤ) → q ≤ℚ int c → int c <ℚ q +ℚ int (pos 1) → c ≡ ceiling q }
+    ensures least { (q : ℚ) (c : ℤ) → ceiling q ≤ℤ c ↔ q ≤ℚ int c }
+{}
+
+/// The ceiling of z/n is the number that rounds z up to a multiple of n: the rounded quotient of a program.
+pub fn quotients_round_up()
+    ensures rounds { (z : ℤ) (n : ℕ) → 0 < n → RoundsUp z n (ceiling (ratio z n)) }
+    ensures unique { (z : ℤ) (n : ℕ) (c : ℤ) → 0 < n → RoundsUp z n c → c ≡ ceiling (ratio z n) }
+{}
+
+/// A sum of n terms, each rounded up, is at least the exact sum and above it by less than n.
+pub fn sums_of_ceilings_are_near()
+    ensures above { (n : ℕ) (f : ℕ → ℚ) → total n f ≤ℚ int (total_ℤ n (λ i. ceiling (f i))) }
+    ensures below { (n : ℕ) (f : ℕ → ℚ) → 0 < n → int (total_ℤ n (λ i. ceiling (f i))) <ℚ total n f +ℚ int (pos n) }
 {}

@@ -4,7 +4,7 @@
 -- the bound of every balanced flux is at most the heat flow. Node values are in 10⁻⁸ of the temperature
 -- difference, face values in nW per unit difference, energy and bound in fW/K.
 use Rattle.std.specs.Prelude.{◌≡◌, ℕ, suc, ◌+◌, ◌*◌, ◌^◌, ◌<◌, ◌≤◌, Option, Some, Bool, if◌then◌else◌, pos, ◌+ℤ◌, ◌-ℤ◌, ℤ}
-use Rattle.tb_math.specs.Inverse.{inverse}
+use Rattle.tb_math.specs.Division.{◌/ℚ◌}
 use Rattle.tb_math.specs.Rational.{ℚ, int, one_over, ◌+ℚ◌, ◌-ℚ◌, ◌*ℚ◌, neg_ℚ}
 use Rattle.tb_math.specs.Ceiling.{ceiling, floor}
 use Rattle.tb_math.specs.Sums.{sum_to}
@@ -90,7 +90,7 @@ boundary inside e = if inside e then int (pos (10 ^ 8)) else int (pos 0)
 
 -- One axis of a cell: λ · bc/a · M/36, with the spread M of the four differences along the axis.
 abbrev pub cell_energy : (conductivity width section M : ℚ) → ℚ
-cell_energy conductivity width section M = conductivity *ℚ section *ℚ inverse width *ℚ M *ℚ one_over (36 * 10 ^ 9)
+cell_energy conductivity width section M = conductivity *ℚ section /ℚ width *ℚ M *ℚ one_over (36 * 10 ^ 9)
 
 -- A surface face: bc/Rs · M/36, with the spread M of the four corner values less that of the environment.
 abbrev pub surface_energy : (rs : ℕ) (section M : ℚ) → ℚ
@@ -118,11 +118,11 @@ passage low high = low *ℚ low +ℚ low *ℚ high +ℚ high *ℚ high
 
 -- One axis of a cell: a · (F0² + F0·F1 + F1²)/(3·bc·λ), with the passage P of the flows through its two faces.
 abbrev pub cell_loss : (conductivity width section P : ℚ) → ℚ
-cell_loss conductivity width section P = width *ℚ P *ℚ int (pos (10 ^ 5)) *ℚ inverse (int (pos 3) *ℚ section *ℚ conductivity)
+cell_loss conductivity width section P = width *ℚ P *ℚ int (pos (10 ^ 5)) /ℚ (int (pos 3) *ℚ section *ℚ conductivity)
 
 -- A surface face: Rs · F²/bc.
 abbrev pub surface_loss : (rs : ℕ) (section flow : ℚ) → ℚ
-surface_loss rs section flow = int (pos (10 * rs)) *ℚ (flow *ℚ flow) *ℚ inverse section
+surface_loss rs section flow = int (pos (10 * rs)) *ℚ (flow *ℚ flow) /ℚ section
 
 abbrev pub flux_terms : Mesh → Flux → Terms
 flux_terms m q = record {

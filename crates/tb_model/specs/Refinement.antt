@@ -3,7 +3,7 @@ use Rattle.std.specs.Prelude.{ℕ, suc, ◌+◌, ◌-◌, ◌*◌, ◌<◌, ◌�
 use Rattle.std.specs.Option.{option_map}
 use Rattle.std.specs.List.{find}
 use Rattle.std.specs.List.Sorted.{IsStrictlyIncreasing}
-use Rattle.tb_math.specs.Rational.{ℚ, int, one_over, ◌*ℚ◌}
+use Rattle.tb_math.specs.Rational.{ℚ, int, ratio}
 use Rattle.tb_places.specs.declared.AxisName.{AxisName}
 use Rattle.tb_places.specs.declared.AxisName.TheVariants.{X, Y, Z}
 use Rattle.tb_detail.specs.declared.Content.{Content}
@@ -68,7 +68,7 @@ occupant s r i j k = option_map (λ b. b.content) (find (holds_middle r i j k) s
 abbrev pub mesh : Scene → Refinement → Mesh
 mesh s r = record {
   cells = λ a. length (r.lines a) - 1;
-  width = λ a i. int (pos (line r a (suc i) - line r a i)) *ℚ one_over r.scale;
+  width = λ a i. ratio (pos (line r a (suc i) - line r a i)) r.scale;
   occupant = occupant s r;
   conductivity = s.conductivity;
 }
