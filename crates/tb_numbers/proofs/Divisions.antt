@@ -1,8 +1,8 @@
 -- What `/` gives in place of the ceiling, in 128 bits.
-use Rattle.std.proofs.Common.{◌≡◌, ◌∙◌, refl, sym, ap, ◌+◌, ◌-◌, ◌*◌, ◌/◌, ◌<◌, ◌≤◌, ℕ, suc, zero, arith, ℤ, pos, negsuc, ◌+ℤ◌, ◌-ℤ◌, ◌<ℤ◌, neg_ℤ, true, false, to_z, of_z, FitsSigned}
+use Rattle.std.proofs.Common.{◌≡◌, refl, ◌+◌, ◌/◌, ℕ, suc, zero, arith, ℤ, pos, negsuc, ◌+ℤ◌, ◌-ℤ◌, ◌<ℤ◌, neg_ℤ, true, false, to_z, of_z, FitsSigned}
 use Rattle.std.proofs.lemmas.Int.{ints, quot_fits, to_z-of_z}
 use Rattle.std.proofs.Math.Nat.{div-le_self, zero-div}
-use Rattle.std.specs.Int.{w128, int_div_euclid}
+use Rattle.std.specs.Int.{w128}
 use Rattle.std.specs.Prelude.{int_div, int_lt}
 use Rattle.tb_numbers.specs.Quotients.{floor, ceiling}
 

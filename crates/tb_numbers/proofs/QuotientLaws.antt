@@ -1,8 +1,7 @@
 -- The floor and the ceiling lie next to the quotient, and are the only whole numbers that do.
-use Rattle.std.proofs.Common.{ap, ◌≡◌, refl, rules, ◌+◌, ◌-◌, ◌*◌, ◌/◌, ◌%◌, ◌<◌, ◌≤◌, ℕ, suc, zero, arith, ℤ, pos, negsuc, ◌+ℤ◌, ◌-ℤ◌, ◌*ℤ◌, ◌≤ℤ◌, ◌<ℤ◌, neg_ℤ}
+use Rattle.std.proofs.Common.{ap, ◌≡◌, ◌+◌, ◌*◌, ◌/◌, ◌<◌, ◌≤◌, ℕ, arith, ℤ, pos, negsuc, ◌+ℤ◌, ◌*ℤ◌, ◌≤ℤ◌, ◌<ℤ◌, neg_ℤ}
 use Rattle.std.proofs.lemmas.Int.{ints, by_lt_z}
 use Rattle.std.proofs.Math.Nat.{mul-le-mul_right}
-use Rattle.std.specs.Int.{int_div_euclid}
 use borrow.Author.Differences.{up, down, neg_is}
 use Rattle.tb_numbers.specs.Quotients.{Side, above, below, IsFloor, IsCeiling, IsRounded, floor, ceiling, rounded}
 

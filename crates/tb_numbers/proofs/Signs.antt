@@ -1,14 +1,14 @@
 -- A sign before a number that was read.
-use Rattle.std.proofs.Common.{◌≡◌, ◌∙◌, ◌^◌, ◌<◌, ◌≤◌, ℕ, List, [], ◌∷◌, length, min, Bool, true, false, Option, Some, None, Result, Ok, Err, zero, suc, inl, inr, refl, sym, ap, rules, arith, ℤ, pos, neg_ℤ}
+use Rattle.std.proofs.Common.{◌≡◌, ◌∙◌, ◌^◌, ◌<◌, ◌≤◌, ℕ, List, [], ◌∷◌, length, min, Bool, true, false, Option, Some, None, Result, Ok, Err, zero, suc, inl, inr, refl, sym, ap, arith, ℤ, pos, neg_ℤ}
 use Rattle.std.proofs.lemmas.Bool.{cases_Bool}
 use Rattle.std.proofs.lemmas.Bool.Decides.{nat_tests}
 use Rattle.std.proofs.lemmas.Option.{cond_some}
 use Rattle.std.proofs.lemmas.Str.Parse.{IsNumeralModel, digits_value_short, numerals_by_value, tells_all_ascii_digits}
-use Rattle.std.specs.Prelude.{option_map, unsigned_abs, nat_le, if◌then◌else◌, ◌&&◌}
+use Rattle.std.specs.Prelude.{option_map, unsigned_abs, nat_le, if◌then◌else◌}
 use Rattle.std.specs.Str.{all_ascii_digits}
 use Rattle.std.specs.Str.Parse.{digits_value, starts_with_minus}
 use Rattle.tb_numbers.specs.declared.parse.NumberFault.{NumberFault}
-use Rattle.tb_numbers.specs.Reading.{decimal_reading, digits_reading, in_range, in_size, is_number, signed, signed_reading, unsigned_part, whole_reading, with_sign}
+use Rattle.tb_numbers.specs.Reading.{decimal_reading, digits_reading, in_range, in_size, is_number, signed_reading, unsigned_part, whole_reading, with_sign}
 
 pub own : IsNumeralModel (λ ds. all_ascii_digits ds ≡ true) (digits_value 10)
 own = numerals_by_value _ tells_all_ascii_digits

@@ -3,11 +3,16 @@
 //! Nothing here takes memory.
 #![tactic(auto)]
 
+mod laws;
 mod parse;
+mod power;
 mod rounding;
 mod sum;
+#[cfg(test)]
+mod tests;
 mod text;
 
+pub use laws::{ceiling_laws, floor_laws, rounding_laws, whole_reads_back};
 pub use parse::{NumberFault, parse_decimal, parse_signed, parse_whole};
 pub use rounding::{Down, Rounding, Up};
 pub use sum::{PastLimit, Sum};

@@ -3,6 +3,8 @@ ghost use Rattle.std.specs.Prelude.{◌≡◌, ◌+◌, ◌*◌, ◌^◌, ◌<�
 ghost use Rattle.std.specs.Str.Parse.{digits_value, starts_with_minus};
 ghost use Rattle.tb_numbers.specs.Reading.{decimal_of_parts, decimal_reading, in_range, in_size, is_number, signed_reading, unsigned_part, whole_decimal, whole_reading};
 
+use crate::power::power_of_ten;
+
 /// Why a text isn't a number within its limits.
 #[derive(Clone, Copy, Debug, PartialEq, Eq)]
 pub enum NumberFault {
@@ -46,17 +48,6 @@ fn digits(text: &[u8]) -> Option<u128>
         number = with_digit(number, *byte - b'0');
     }
     Some(number)
-}
-
-// Ten to a small power.
-#[tactic(auto, using(crate::proofs::Powers::ten_positive, crate::proofs::Powers::ten_at_most))]
-pub(crate) fn power_of_ten(places: u8) -> u64
-    requires { places ≤ 18 }
-    ensures value { result ≡ 10 ^ places }
-    ensures positive { 0 < result }
-    ensures small { result ≤ 10 ^ 18 }
-{
-    10u64.pow(u32::from(places))
 }
 
 fn point_at(text: &[u8]) -> Option<usize>

@@ -44,6 +44,7 @@ impl<R: Rounding> Sum<R> {
         requires dividend { pos 0 ≤ℤ n }
         requires divisor { pos 0 <ℤ d }
         ensures added { OnOk result (self.new ≡ self.old +ℤ rounded R.side n d) }
+        ensures within { OnOk result (self.new ≤ℤ pos (2 ^ 120)) }
         ensures unchanged { OnErr result (self.new ≡ self.old) }
         ensures past_limit { IsErr result ↔ (pos (2 ^ 120) <ℤ (self.old +ℤ rounded R.side n d)) }
     {

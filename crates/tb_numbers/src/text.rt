@@ -2,7 +2,7 @@
 ghost use Rattle.std.specs.Prelude.{◌≡◌, ◌+◌, ◌^◌, ◌<◌, ◌≤◌, [], ◌∷◌, ◌++◌, length, replicate};
 ghost use Rattle.tb_numbers.specs.Texts.{fixed_text, fraction_text, padded, sign};
 
-use crate::parse::power_of_ten;
+use crate::power::power_of_ten;
 use itoa::Buffer;
 use std::marker::Model;
 

@@ -1,5 +1,5 @@
 -- Texts that are gathered piece by piece beside a sink: what a writer needs who puts its pieces into a buffer.
-use Rattle.std.proofs.Common.{◌≡◌, ◌∙◌, sym, ap, refl, ◌+◌, ◌≤◌, ℕ, List, [], ◌++◌, length, take, drop, Option, Result, Ok, Err, true, is_err, arith, append_assoc, length-append}
+use Rattle.std.proofs.Common.{◌≡◌, ◌∙◌, sym, ap, refl, ◌+◌, ℕ, List, [], ◌++◌, length, take, drop, Option, Result, Ok, Err, true, is_err, arith, append_assoc, length-append}
 use Rattle.std.proofs.Math.Seq.{drop-append-add, take-append-add}
 use Rattle.std.proofs.lemmas.List.{drop-append-le, drop_all, length-take-le, take-append-drop, take-append-le, take_all}
 use Rattle.tb_outside.proofs.Known.{adds_more, adds_none}

@@ -10,6 +10,8 @@ mod memory;
 mod sink;
 mod source;
 mod stream;
+#[cfg(test)]
+mod tests;
 
 pub use buffer::{BUFFER_SIZE, OutputBuffer};
 pub use memory::{MemorySink, SteadySource};

@@ -36,6 +36,19 @@ edge_along n X i j k = (λ h. h, λ h. h)
 edge_along n Y i j k = (λ h. (h.1, h.0, h.2), λ h. (h.1, h.0, h.2))
 edge_along n Z i j k = (λ h. (h.2, h.0, h.1), λ h. (h.1, h.2, h.0))
 
+-- the faces across the two other axes, seen along this one
+pub second_face_along : (n : Counts) (a : AxisName) (i j k : ℕ) → let p = place_along a i j k in
+    IsFace n (second a) p.i p.j p.k ↔ ((i < n a) × (j ≤ n (second a)) × (k < n (third a)))
+second_face_along n X i j k = (λ h. h, λ h. h)
+second_face_along n Y i j k = (λ h. (h.1, h.0, h.2), λ h. (h.1, h.0, h.2))
+second_face_along n Z i j k = (λ h. (h.2, h.0, h.1), λ h. (h.1, h.2, h.0))
+
+pub third_face_along : (n : Counts) (a : AxisName) (i j k : ℕ) → let p = place_along a i j k in
+    IsFace n (third a) p.i p.j p.k ↔ ((i < n a) × (j < n (second a)) × (k ≤ n (third a)))
+third_face_along n X i j k = (λ h. h, λ h. h)
+third_face_along n Y i j k = (λ h. (h.1, h.0, h.2), λ h. (h.1, h.0, h.2))
+third_face_along n Z i j k = (λ h. (h.2, h.0, h.1), λ h. (h.1, h.2, h.0))
+
 -- ---- a cell's faces, corners and edges
 
 pub low_face_of_cell : (n : Counts) (a : AxisName) (i j k : ℕ) → IsCell n i j k → IsFace n a i j k
@@ -80,3 +93,23 @@ pub end_of_edge : (n : Counts) (a : AxisName) (i j k r : ℕ) →
 end_of_edge n a i j k r edge r_one =
     let along = (edge_along n a i j k).0 edge in
     (node_along n a (i + r) j k).1 (omega arith, along.1, along.2)
+
+-- ---- what stands round an edge that is inside the hull: its two lines, j + 1 and k + 1, are no outer lines
+
+pub cell_round_edge : (n : Counts) (a : AxisName) (i j k q r : ℕ) →
+    i < n a → j + 1 < n (second a) → k + 1 < n (third a) → q ≤ 1 → r ≤ 1 →
+    let p = place_along a i (j + q) (k + r) in IsCell n p.i p.j p.k
+cell_round_edge n a i j k q r on_axis inside_j inside_k q_one r_one =
+    (cell_along n a i (j + q) (k + r)).1 (on_axis, omega arith, omega arith)
+
+pub second_face_round_edge : (n : Counts) (a : AxisName) (i j k r : ℕ) →
+    i < n a → j + 1 < n (second a) → k + 1 < n (third a) → r ≤ 1 →
+    let p = place_along a i (j + 1) (k + r) in IsFace n (second a) p.i p.j p.k
+second_face_round_edge n a i j k r on_axis inside_j inside_k r_one =
+    (second_face_along n a i (j + 1) (k + r)).1 (on_axis, omega arith, omega arith)
+
+pub third_face_round_edge : (n : Counts) (a : AxisName) (i j k q : ℕ) →
+    i < n a → j + 1 < n (second a) → k + 1 < n (third a) → q ≤ 1 →
+    let p = place_along a i (j + q) (k + 1) in IsFace n (third a) p.i p.j p.k
+third_face_round_edge n a i j k q on_axis inside_j inside_k q_one =
+    (third_face_along n a i (j + q) (k + 1)).1 (on_axis, omega arith, omega arith)

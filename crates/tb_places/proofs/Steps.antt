@@ -17,6 +17,15 @@ node_step n X i j k = omega arith
 node_step n Y i j k = omega arith
 node_step n Z i j k = omega arith
 
+-- several steps at once, as from a cell's first corner to the others
+pub cell_steps : (n : Counts) (i j k p q r : ℕ) →
+    cell_number n (i + p) (j + q) (k + r) ≡ cell_number n i j k + cell_number n p q r
+cell_steps n i j k p q r = omega arith
+
+pub node_steps : (n : Counts) (i j k p q r : ℕ) →
+    node_number n (i + p) (j + q) (k + r) ≡ node_number n i j k + node_number n p q r
+node_steps n i j k p q r = omega arith
+
 -- from a face across the axis a to the next one along the axis b
 pub face_step : (n : Counts) (a b : AxisName) (i j k : ℕ) →
     along b (face_number n a) (i + 1) j k ≡ along b (face_number n a) i j k + face_stride n a b

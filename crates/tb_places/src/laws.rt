@@ -65,7 +65,8 @@ pub fn edges_are_numbered()
 {}
 
 /// The number of the next cell, node, face or edge along an axis is one stride further. So the high face of a
-/// cell is the low face of the next cell, and its number is the low face's and a stride.
+/// cell is the low face of the next cell, and its number is the low face's and a stride. Steps of cells and of
+/// nodes add up: the corners of all cells lie at the same distances from their first.
 pub fn numbers_step_along_an_axis()
     ensures cells { (n : Counts) (a : AxisName) (i j k : ℕ)
         → along a (cell_number n) (i + 1) j k ≡ along a (cell_number n) i j k + cell_stride n a }
@@ -75,6 +76,10 @@ pub fn numbers_step_along_an_axis()
         → along b (face_number n a) (i + 1) j k ≡ along b (face_number n a) i j k + face_stride n a b }
     ensures edges { (n : Counts) (a b : AxisName) (i j k : ℕ)
         → along b (edge_number n a) (i + 1) j k ≡ along b (edge_number n a) i j k + edge_stride n a b }
+    ensures cells_at_once { (n : Counts) (i j k p q r : ℕ)
+        → cell_number n (i + p) (j + q) (k + r) ≡ cell_number n i j k + cell_number n p q r }
+    ensures nodes_at_once { (n : Counts) (i j k p q r : ℕ)
+        → node_number n (i + p) (j + q) (k + r) ≡ node_number n i j k + node_number n p q r }
 {}
 
 /// What a place is, said once for all three axes: the index along the axis first, and the other two in order.
@@ -89,6 +94,10 @@ pub fn places_stand_along_an_axis()
         IsFace n a p.i p.j p.k ↔ ((i ≤ n a) × (j < n (second a)) × (k < n (third a))) }
     ensures edges { (n : Counts) (a : AxisName) (i j k : ℕ) → let p = place_along a i j k in
         IsEdge n a p.i p.j p.k ↔ ((i < n a) × (j ≤ n (second a)) × (k ≤ n (third a))) }
+    ensures second_faces { (n : Counts) (a : AxisName) (i j k : ℕ) → let p = place_along a i j k in
+        IsFace n (second a) p.i p.j p.k ↔ ((i < n a) × (j ≤ n (second a)) × (k < n (third a))) }
+    ensures third_faces { (n : Counts) (a : AxisName) (i j k : ℕ) → let p = place_along a i j k in
+        IsFace n (third a) p.i p.j p.k ↔ ((i < n a) × (j < n (second a)) × (k ≤ n (third a))) }
 {}
 
 /// A cell has a low and a high face across each axis, four edges along each axis and eight corners, and an
@@ -111,6 +120,20 @@ pub fn places_meet()
     ensures ends { (n : Counts) (a : AxisName) (i j k r : ℕ)
         → let p = place_along a i j k in let e = place_along a (i + r) j k in
         IsEdge n a p.i p.j p.k → r ≤ 1 → IsNode n e.i e.j e.k }
+{}
+
+/// Four cells and four faces stand round an edge that is inside the hull: one whose two lines, `j + 1` and
+/// `k + 1` of the two other axes, are neither the first nor the last.
+pub fn inner_edges_are_surrounded()
+    ensures cells { (n : Counts) (a : AxisName) (i j k q r : ℕ)
+        → i < n a → j + 1 < n (second a) → k + 1 < n (third a) → q ≤ 1 → r ≤ 1
+        → let p = place_along a i (j + q) (k + r) in IsCell n p.i p.j p.k }
+    ensures second_faces { (n : Counts) (a : AxisName) (i j k r : ℕ)
+        → i < n a → j + 1 < n (second a) → k + 1 < n (third a) → r ≤ 1
+        → let p = place_along a i (j + 1) (k + r) in IsFace n (second a) p.i p.j p.k }
+    ensures third_faces { (n : Counts) (a : AxisName) (i j k q : ℕ)
+        → i < n a → j + 1 < n (second a) → k + 1 < n (third a) → q ≤ 1
+        → let p = place_along a i (j + q) (k + 1) in IsFace n (third a) p.i p.j p.k }
 {}
 
 /// In a grid with a cell along each axis the counts are small multiples of the number of cells. So where there

@@ -14,7 +14,7 @@ SliceReader = Reader (Bor (List ℕ))
 abbrev pub bytes_ahead : SliceReader → Option (List ℕ)
 bytes_ahead r = source_of (λ s. Some s.now) r
 
--- the records from a state on; a text has at most one more record than it has bytes
+-- the records from a state on: inside a record there may be one more than there are bytes
 unfoldable pub records_after : State → List ℕ → List (List (List ℕ))
 records_after s bytes = records_from default_config (length bytes + 2) s bytes
 

@@ -1,4 +1,4 @@
-use Rattle.std.proofs.Common.{◌∙◌, rules, arith}
+use Rattle.std.proofs.Common.{rules, arith}
 use Rattle.tb_numbers.proofs.Digits.{digits_step, number_step}
 use Rattle.tb_numbers.proofs.parse.digits.Goals as goal
 

@@ -1,4 +1,4 @@
-use Rattle.std.proofs.Common.{◌≡◌, ◌∙◌, ◌≤◌, ◌^◌, refl, sym, ap, arith, Ok, Err, rules, ℤ, pos, neg_ℤ}
+use Rattle.std.proofs.Common.{◌∙◌, sym, ap, arith, Ok}
 use Rattle.std.proofs.lemmas.Int.{ints}
 use Rattle.std.proofs.lemmas.Result.{err_from_is_err_and}
 use Rattle.tb_numbers.proofs.Signs.{signed_same}

@@ -1,4 +1,4 @@
-use Rattle.std.proofs.Common.{◌≡◌, ◌∙◌, ◌≤◌, ◌^◌, refl, sym, ap, arith, Some, rules, ℤ, pos, neg_ℤ}
+use Rattle.std.proofs.Common.{◌∙◌, sym, ap, arith, Some}
 use Rattle.std.proofs.lemmas.Int.{ints}
 use Rattle.tb_numbers.proofs.Signs.{whole_same}
 use Rattle.tb_numbers.proofs.parse.parse_whole.Goals as goal

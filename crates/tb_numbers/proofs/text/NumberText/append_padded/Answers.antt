@@ -1,4 +1,4 @@
-use Rattle.std.proofs.Common.{◌∙◌, ◌≡◌, ◌≤◌, ◌-◌, ℕ, ap, arith, length, length-append}
+use Rattle.std.proofs.Common.{◌∙◌, ◌≤◌, ◌-◌, ℕ, ap, arith, length, length-append}
 use Rattle.std.proofs.lemmas.Fmt.{length-decimal-le}
 use Rattle.std.proofs.lemmas.List.{length-replicate}
 use Rattle.std.specs.Prelude.{decimal, replicate}

@@ -1,4 +1,4 @@
-use Rattle.std.proofs.Common.{◌≡◌, ◌∙◌, ◌-◌, ◌++◌, ℕ, List, ap, arith}
+use Rattle.std.proofs.Common.{◌∙◌, ◌++◌, ℕ, List, ap}
 use Rattle.tb_numbers.proofs.Padded.{zeros_front}
 use Rattle.tb_numbers.proofs.text.NumberText.append_zeros.Goals as goal
 

@@ -1,0 +1,34 @@
+// Laws of rounded quotients, and of texts that read as what they were written from.
+ghost use Rattle.std.specs.Prelude.{◌≡◌, ◌^◌, ◌<◌, ℤ, pos, ◌*ℤ◌, ◌≤ℤ◌, ◌<ℤ◌, unsigned_abs, Some};
+ghost use Rattle.tb_numbers.specs.Quotients.{IsCeiling, IsFloor, IsRounded, Side, ceiling, floor, rounded};
+ghost use Rattle.tb_numbers.specs.Reading.{whole_reading};
+ghost use Rattle.tb_numbers.specs.Texts.{fixed_text};
+
+/// The floor of n / d times d is at most n, by less than d. It is the greatest whole number whose
+/// product with d is at most n, and no other number lies so.
+pub fn floor_laws()
+    ensures brackets { (n d : ℤ) → pos 0 <ℤ d → IsFloor n d (floor n d) }
+    ensures greatest { (n d k : ℤ) → pos 0 <ℤ d → (k *ℤ d) ≤ℤ n → k ≤ℤ floor n d }
+    ensures unique { (n d q : ℤ) → pos 0 <ℤ d → IsFloor n d q → q ≡ floor n d }
+{}
+
+/// The ceiling of n / d times d is at least n, by less than d. It is the least whole number whose
+/// product with d is at least n, and no other number lies so.
+pub fn ceiling_laws()
+    ensures brackets { (n d : ℤ) → pos 0 <ℤ d → IsCeiling n d (ceiling n d) }
+    ensures least { (n d k : ℤ) → pos 0 <ℤ d → n ≤ℤ (k *ℤ d) → ceiling n d ≤ℤ k }
+    ensures unique { (n d q : ℤ) → pos 0 <ℤ d → IsCeiling n d q → q ≡ ceiling n d }
+{}
+
+/// Each rounding brackets the quotient on its side, is the only one that does, and keeps a quotient
+/// that isn't negative so.
+pub fn rounding_laws()
+    ensures brackets { (side : Side) (n d : ℤ) → pos 0 <ℤ d → IsRounded side n d (rounded side n d) }
+    ensures unique { (side : Side) (n d q : ℤ) → pos 0 <ℤ d → IsRounded side n d q → q ≡ rounded side n d }
+    ensures not_negative { (side : Side) (n d : ℤ) → pos 0 <ℤ d → pos 0 ≤ℤ n → pos 0 ≤ℤ rounded side n d }
+{}
+
+/// The text of a whole number of at most 38 digits reads as that number.
+pub fn whole_reads_back()
+    ensures { (z : ℤ) → unsigned_abs z < 10 ^ 38 → whole_reading (fixed_text 0 z) ≡ Some z }
+{}
