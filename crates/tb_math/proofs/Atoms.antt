@@ -37,49 +37,64 @@ atom_7 = record { place = 7; is = refl }
 abbrev pub atom_8 : {A : Type 0} {none x0 x1 x2 x3 x4 x5 x6 x7 x8 : A} {xs : List A} → Atom none (x0 ∷ x1 ∷ x2 ∷ x3 ∷ x4 ∷ x5 ∷ x6 ∷ x7 ∷ x8 ∷ xs) x8
 atom_8 = record { place = 8; is = refl }
 
-abbrev pub atom_9 : {A : Type 0} {none x0 x1 x2 x3 x4 x5 x6 x7 x8 x9 : A} {xs : List A} → Atom none (x0 ∷ x1 ∷ x2 ∷ x3 ∷ x4 ∷ x5 ∷ x6 ∷ x7 ∷ x8 ∷ x9 ∷ xs) x9
+abbrev pub atom_9 : {A : Type 0} {none x0 x1 x2 x3 x4 x5 x6 x7 x8 x9 : A} {xs : List A} →
+    Atom none (x0 ∷ x1 ∷ x2 ∷ x3 ∷ x4 ∷ x5 ∷ x6 ∷ x7 ∷ x8 ∷ x9 ∷ xs) x9
 atom_9 = record { place = 9; is = refl }
 
-abbrev pub atom_10 : {A : Type 0} {none x0 x1 x2 x3 x4 x5 x6 x7 x8 x9 x10 : A} {xs : List A} → Atom none (x0 ∷ x1 ∷ x2 ∷ x3 ∷ x4 ∷ x5 ∷ x6 ∷ x7 ∷ x8 ∷ x9 ∷ x10 ∷ xs) x10
+abbrev pub atom_10 : {A : Type 0} {none x0 x1 x2 x3 x4 x5 x6 x7 x8 x9 x10 : A} {xs : List A} →
+    Atom none (x0 ∷ x1 ∷ x2 ∷ x3 ∷ x4 ∷ x5 ∷ x6 ∷ x7 ∷ x8 ∷ x9 ∷ x10 ∷ xs) x10
 atom_10 = record { place = 10; is = refl }
 
-abbrev pub atom_11 : {A : Type 0} {none x0 x1 x2 x3 x4 x5 x6 x7 x8 x9 x10 x11 : A} {xs : List A} → Atom none (x0 ∷ x1 ∷ x2 ∷ x3 ∷ x4 ∷ x5 ∷ x6 ∷ x7 ∷ x8 ∷ x9 ∷ x10 ∷ x11 ∷ xs) x11
+abbrev pub atom_11 : {A : Type 0} {none x0 x1 x2 x3 x4 x5 x6 x7 x8 x9 x10 x11 : A} {xs : List A} →
+    Atom none (x0 ∷ x1 ∷ x2 ∷ x3 ∷ x4 ∷ x5 ∷ x6 ∷ x7 ∷ x8 ∷ x9 ∷ x10 ∷ x11 ∷ xs) x11
 atom_11 = record { place = 11; is = refl }
 
-abbrev pub atom_12 : {A : Type 0} {none x0 x1 x2 x3 x4 x5 x6 x7 x8 x9 x10 x11 x12 : A} {xs : List A} → Atom none (x0 ∷ x1 ∷ x2 ∷ x3 ∷ x4 ∷ x5 ∷ x6 ∷ x7 ∷ x8 ∷ x9 ∷ x10 ∷ x11 ∷ x12 ∷ xs) x12
+abbrev pub atom_12 : {A : Type 0} {none x0 x1 x2 x3 x4 x5 x6 x7 x8 x9 x10 x11 x12 : A} {xs : List A} →
+    Atom none (x0 ∷ x1 ∷ x2 ∷ x3 ∷ x4 ∷ x5 ∷ x6 ∷ x7 ∷ x8 ∷ x9 ∷ x10 ∷ x11 ∷ x12 ∷ xs) x12
 atom_12 = record { place = 12; is = refl }
 
-abbrev pub atom_13 : {A : Type 0} {none x0 x1 x2 x3 x4 x5 x6 x7 x8 x9 x10 x11 x12 x13 : A} {xs : List A} → Atom none (x0 ∷ x1 ∷ x2 ∷ x3 ∷ x4 ∷ x5 ∷ x6 ∷ x7 ∷ x8 ∷ x9 ∷ x10 ∷ x11 ∷ x12 ∷ x13 ∷ xs) x13
+abbrev pub atom_13 : {A : Type 0} {none x0 x1 x2 x3 x4 x5 x6 x7 x8 x9 x10 x11 x12 x13 : A} {xs : List A} →
+    Atom none (x0 ∷ x1 ∷ x2 ∷ x3 ∷ x4 ∷ x5 ∷ x6 ∷ x7 ∷ x8 ∷ x9 ∷ x10 ∷ x11 ∷ x12 ∷ x13 ∷ xs) x13
 atom_13 = record { place = 13; is = refl }
 
-abbrev pub atom_14 : {A : Type 0} {none x0 x1 x2 x3 x4 x5 x6 x7 x8 x9 x10 x11 x12 x13 x14 : A} {xs : List A} → Atom none (x0 ∷ x1 ∷ x2 ∷ x3 ∷ x4 ∷ x5 ∷ x6 ∷ x7 ∷ x8 ∷ x9 ∷ x10 ∷ x11 ∷ x12 ∷ x13 ∷ x14 ∷ xs) x14
+abbrev pub atom_14 : {A : Type 0} {none x0 x1 x2 x3 x4 x5 x6 x7 x8 x9 x10 x11 x12 x13 x14 : A} {xs : List A} →
+    Atom none (x0 ∷ x1 ∷ x2 ∷ x3 ∷ x4 ∷ x5 ∷ x6 ∷ x7 ∷ x8 ∷ x9 ∷ x10 ∷ x11 ∷ x12 ∷ x13 ∷ x14 ∷ xs) x14
 atom_14 = record { place = 14; is = refl }
 
-abbrev pub atom_15 : {A : Type 0} {none x0 x1 x2 x3 x4 x5 x6 x7 x8 x9 x10 x11 x12 x13 x14 x15 : A} {xs : List A} → Atom none (x0 ∷ x1 ∷ x2 ∷ x3 ∷ x4 ∷ x5 ∷ x6 ∷ x7 ∷ x8 ∷ x9 ∷ x10 ∷ x11 ∷ x12 ∷ x13 ∷ x14 ∷ x15 ∷ xs) x15
+abbrev pub atom_15 : {A : Type 0} {none x0 x1 x2 x3 x4 x5 x6 x7 x8 x9 x10 x11 x12 x13 x14 x15 : A} {xs : List A} →
+    Atom none (x0 ∷ x1 ∷ x2 ∷ x3 ∷ x4 ∷ x5 ∷ x6 ∷ x7 ∷ x8 ∷ x9 ∷ x10 ∷ x11 ∷ x12 ∷ x13 ∷ x14 ∷ x15 ∷ xs) x15
 atom_15 = record { place = 15; is = refl }
 
-abbrev pub atom_16 : {A : Type 0} {none x0 x1 x2 x3 x4 x5 x6 x7 x8 x9 x10 x11 x12 x13 x14 x15 x16 : A} {xs : List A} → Atom none (x0 ∷ x1 ∷ x2 ∷ x3 ∷ x4 ∷ x5 ∷ x6 ∷ x7 ∷ x8 ∷ x9 ∷ x10 ∷ x11 ∷ x12 ∷ x13 ∷ x14 ∷ x15 ∷ x16 ∷ xs) x16
+abbrev pub atom_16 : {A : Type 0} {none x0 x1 x2 x3 x4 x5 x6 x7 x8 x9 x10 x11 x12 x13 x14 x15 x16 : A} {xs : List A} →
+    Atom none (x0 ∷ x1 ∷ x2 ∷ x3 ∷ x4 ∷ x5 ∷ x6 ∷ x7 ∷ x8 ∷ x9 ∷ x10 ∷ x11 ∷ x12 ∷ x13 ∷ x14 ∷ x15 ∷ x16 ∷ xs) x16
 atom_16 = record { place = 16; is = refl }
 
-abbrev pub atom_17 : {A : Type 0} {none x0 x1 x2 x3 x4 x5 x6 x7 x8 x9 x10 x11 x12 x13 x14 x15 x16 x17 : A} {xs : List A} → Atom none (x0 ∷ x1 ∷ x2 ∷ x3 ∷ x4 ∷ x5 ∷ x6 ∷ x7 ∷ x8 ∷ x9 ∷ x10 ∷ x11 ∷ x12 ∷ x13 ∷ x14 ∷ x15 ∷ x16 ∷ x17 ∷ xs) x17
+abbrev pub atom_17 : {A : Type 0} {none x0 x1 x2 x3 x4 x5 x6 x7 x8 x9 x10 x11 x12 x13 x14 x15 x16 x17 : A} {xs : List A} →
+    Atom none (x0 ∷ x1 ∷ x2 ∷ x3 ∷ x4 ∷ x5 ∷ x6 ∷ x7 ∷ x8 ∷ x9 ∷ x10 ∷ x11 ∷ x12 ∷ x13 ∷ x14 ∷ x15 ∷ x16 ∷ x17 ∷ xs) x17
 atom_17 = record { place = 17; is = refl }
 
-abbrev pub atom_18 : {A : Type 0} {none x0 x1 x2 x3 x4 x5 x6 x7 x8 x9 x10 x11 x12 x13 x14 x15 x16 x17 x18 : A} {xs : List A} → Atom none (x0 ∷ x1 ∷ x2 ∷ x3 ∷ x4 ∷ x5 ∷ x6 ∷ x7 ∷ x8 ∷ x9 ∷ x10 ∷ x11 ∷ x12 ∷ x13 ∷ x14 ∷ x15 ∷ x16 ∷ x17 ∷ x18 ∷ xs) x18
+abbrev pub atom_18 : {A : Type 0} {none x0 x1 x2 x3 x4 x5 x6 x7 x8 x9 x10 x11 x12 x13 x14 x15 x16 x17 x18 : A} {xs : List A} →
+    Atom none (x0 ∷ x1 ∷ x2 ∷ x3 ∷ x4 ∷ x5 ∷ x6 ∷ x7 ∷ x8 ∷ x9 ∷ x10 ∷ x11 ∷ x12 ∷ x13 ∷ x14 ∷ x15 ∷ x16 ∷ x17 ∷ x18 ∷ xs) x18
 atom_18 = record { place = 18; is = refl }
 
-abbrev pub atom_19 : {A : Type 0} {none x0 x1 x2 x3 x4 x5 x6 x7 x8 x9 x10 x11 x12 x13 x14 x15 x16 x17 x18 x19 : A} {xs : List A} → Atom none (x0 ∷ x1 ∷ x2 ∷ x3 ∷ x4 ∷ x5 ∷ x6 ∷ x7 ∷ x8 ∷ x9 ∷ x10 ∷ x11 ∷ x12 ∷ x13 ∷ x14 ∷ x15 ∷ x16 ∷ x17 ∷ x18 ∷ x19 ∷ xs) x19
+abbrev pub atom_19 : {A : Type 0} {none x0 x1 x2 x3 x4 x5 x6 x7 x8 x9 x10 x11 x12 x13 x14 x15 x16 x17 x18 x19 : A} {xs : List A} →
+    Atom none (x0 ∷ x1 ∷ x2 ∷ x3 ∷ x4 ∷ x5 ∷ x6 ∷ x7 ∷ x8 ∷ x9 ∷ x10 ∷ x11 ∷ x12 ∷ x13 ∷ x14 ∷ x15 ∷ x16 ∷ x17 ∷ x18 ∷ x19 ∷ xs) x19
 atom_19 = record { place = 19; is = refl }
 
-abbrev pub atom_20 : {A : Type 0} {none x0 x1 x2 x3 x4 x5 x6 x7 x8 x9 x10 x11 x12 x13 x14 x15 x16 x17 x18 x19 x20 : A} {xs : List A} → Atom none (x0 ∷ x1 ∷ x2 ∷ x3 ∷ x4 ∷ x5 ∷ x6 ∷ x7 ∷ x8 ∷ x9 ∷ x10 ∷ x11 ∷ x12 ∷ x13 ∷ x14 ∷ x15 ∷ x16 ∷ x17 ∷ x18 ∷ x19 ∷ x20 ∷ xs) x20
+abbrev pub atom_20 : {A : Type 0} {none x0 x1 x2 x3 x4 x5 x6 x7 x8 x9 x10 x11 x12 x13 x14 x15 x16 x17 x18 x19 x20 : A} {xs : List A} →
+    Atom none (x0 ∷ x1 ∷ x2 ∷ x3 ∷ x4 ∷ x5 ∷ x6 ∷ x7 ∷ x8 ∷ x9 ∷ x10 ∷ x11 ∷ x12 ∷ x13 ∷ x14 ∷ x15 ∷ x16 ∷ x17 ∷ x18 ∷ x19 ∷ x20 ∷ xs) x20
 atom_20 = record { place = 20; is = refl }
 
-abbrev pub atom_21 : {A : Type 0} {none x0 x1 x2 x3 x4 x5 x6 x7 x8 x9 x10 x11 x12 x13 x14 x15 x16 x17 x18 x19 x20 x21 : A} {xs : List A} → Atom none (x0 ∷ x1 ∷ x2 ∷ x3 ∷ x4 ∷ x5 ∷ x6 ∷ x7 ∷ x8 ∷ x9 ∷ x10 ∷ x11 ∷ x12 ∷ x13 ∷ x14 ∷ x15 ∷ x16 ∷ x17 ∷ x18 ∷ x19 ∷ x20 ∷ x21 ∷ xs) x21
+abbrev pub atom_21 : {A : Type 0} {none x0 x1 x2 x3 x4 x5 x6 x7 x8 x9 x10 x11 x12 x13 x14 x15 x16 x17 x18 x19 x20 x21 : A} {xs : List A} →
+    Atom none (x0 ∷ x1 ∷ x2 ∷ x3 ∷ x4 ∷ x5 ∷ x6 ∷ x7 ∷ x8 ∷ x9 ∷ x10 ∷ x11 ∷ x12 ∷ x13 ∷ x14 ∷ x15 ∷ x16 ∷ x17 ∷ x18 ∷ x19 ∷ x20 ∷ x21 ∷ xs) x21
 atom_21 = record { place = 21; is = refl }
 
-abbrev pub atom_22 : {A : Type 0} {none x0 x1 x2 x3 x4 x5 x6 x7 x8 x9 x10 x11 x12 x13 x14 x15 x16 x17 x18 x19 x20 x21 x22 : A} {xs : List A} → Atom none (x0 ∷ x1 ∷ x2 ∷ x3 ∷ x4 ∷ x5 ∷ x6 ∷ x7 ∷ x8 ∷ x9 ∷ x10 ∷ x11 ∷ x12 ∷ x13 ∷ x14 ∷ x15 ∷ x16 ∷ x17 ∷ x18 ∷ x19 ∷ x20 ∷ x21 ∷ x22 ∷ xs) x22
+abbrev pub atom_22 : {A : Type 0} {none x0 x1 x2 x3 x4 x5 x6 x7 x8 x9 x10 x11 x12 x13 x14 x15 x16 x17 x18 x19 x20 x21 x22 : A} {xs : List A} →
+    Atom none (x0 ∷ x1 ∷ x2 ∷ x3 ∷ x4 ∷ x5 ∷ x6 ∷ x7 ∷ x8 ∷ x9 ∷ x10 ∷ x11 ∷ x12 ∷ x13 ∷ x14 ∷ x15 ∷ x16 ∷ x17 ∷ x18 ∷ x19 ∷ x20 ∷ x21 ∷ x22 ∷ xs) x22
 atom_22 = record { place = 22; is = refl }
 
-abbrev pub atom_23 : {A : Type 0} {none x0 x1 x2 x3 x4 x5 x6 x7 x8 x9 x10 x11 x12 x13 x14 x15 x16 x17 x18 x19 x20 x21 x22 x23 : A} {xs : List A} → Atom none (x0 ∷ x1 ∷ x2 ∷ x3 ∷ x4 ∷ x5 ∷ x6 ∷ x7 ∷ x8 ∷ x9 ∷ x10 ∷ x11 ∷ x12 ∷ x13 ∷ x14 ∷ x15 ∷ x16 ∷ x17 ∷ x18 ∷ x19 ∷ x20 ∷ x21 ∷ x22 ∷ x23 ∷ xs) x23
+abbrev pub atom_23 : {A : Type 0} {none x0 x1 x2 x3 x4 x5 x6 x7 x8 x9 x10 x11 x12 x13 x14 x15 x16 x17 x18 x19 x20 x21 x22 x23 : A} {xs : List A} →
+    Atom none (x0 ∷ x1 ∷ x2 ∷ x3 ∷ x4 ∷ x5 ∷ x6 ∷ x7 ∷ x8 ∷ x9 ∷ x10 ∷ x11 ∷ x12 ∷ x13 ∷ x14 ∷ x15 ∷ x16 ∷ x17 ∷ x18 ∷ x19 ∷ x20 ∷ x21 ∷ x22 ∷ x23 ∷ xs) x23
 atom_23 = record { place = 23; is = refl }
 
 pub ruleset an_atom = (atom_0, atom_1, atom_2, atom_3, atom_4, atom_5, atom_6, atom_7, atom_8, atom_9, atom_10, atom_11, atom_12, atom_13, atom_14, atom_15, atom_16, atom_17, atom_18, atom_19, atom_20, atom_21, atom_22, atom_23)

@@ -24,7 +24,11 @@ use Rattle.tb_math.proofs.ReadRationals.{by_given, reading, none, given}
 pub ceiling-above : (q : ℚ) → q ≤ℚ int (ceiling q)
 unfolding ceiling int
 ceiling-above = ind {r = ◌≈◌} {β = λ q. q ≤ℚ int (ceiling q)} (λ q. ≤ℚ-prop q (int (ceiling q)))
-    (λ x. ≤ℚ-from x (whole (ceiling (mk x))) (record { at_most = above x.numerator (pos x.denominator) (quotient_up x.numerator x.denominator) (quotient_up-rounds x.numerator x.denominator x.positive).above }))
+    (λ x. ≤ℚ-from x (whole (ceiling (mk x)))
+    (record {
+      at_most = above x.numerator (pos x.denominator) (quotient_up x.numerator x.denominator)
+          (quotient_up-rounds x.numerator x.denominator x.positive).above;
+    }))
   where
     above : (z n c : ℤ) → z ≤ℤ (c *ℤ n) → (z *ℤ pos 1) ≤ℤ (c *ℤ n)
     above z n c h = omega (arith, ints, h)
@@ -35,14 +39,19 @@ times-one n = omega (arith, ints)
 pub ceiling-below : (q : ℚ) → int (ceiling q) <ℚ q +ℚ int (pos 1)
 unfolding ceiling int ◌+ℚ◌
 ceiling-below = ind {r = ◌≈◌} {β = λ q. int (ceiling q) <ℚ q +ℚ int (pos 1)} (λ q. <ℚ-prop (int (ceiling q)) (q +ℚ int (pos 1)))
-    (λ x. record { not_above = λ l. none x.numerator (pos x.denominator) (quotient_up x.numerator x.denominator) (quotient_up-rounds x.numerator x.denominator x.positive).below (≤ℚ-to (x +F whole (pos 1)) (whole (ceiling (mk x))) l).at_most })
+    (λ x. record {
+      not_above = λ l. none x.numerator (pos x.denominator) (quotient_up x.numerator x.denominator)
+          (quotient_up-rounds x.numerator x.denominator x.positive).below (≤ℚ-to (x +F whole (pos 1)) (whole (ceiling (mk x))) l).at_most;
+    })
   where
     none : (z n c : ℤ) → (c *ℤ n) <ℤ (z +ℤ n) → ((z *ℤ pos 1 +ℤ pos 1 *ℤ n) *ℤ pos 1) ≤ℤ (c *ℤ (n *ℤ pos 1)) → ⊥
     none z n c h l = let e : c *ℤ (n *ℤ pos 1) ≡ c *ℤ n = ap (λ (t : ℤ). c *ℤ t) (times-one n) in omega (arith, ints, h, l, e)
 
 -- between two numbers that differ by less than 1
 step : (a b : ℤ) (q : ℚ) → int a <ℚ q +ℚ int (pos 1) → q ≤ℚ int b → a ≤ℤ b
-step a b q h k = last (int-< a (b +ℤ pos 1) (subst (λ (t : ℚ). int a <ℚ t) (sym (int-add b (pos 1))) (<-≤-trans (int a) (q +ℚ int (pos 1)) (int b +ℚ int (pos 1)) h (≤ℚ-add q (int b) (int (pos 1)) (int (pos 1)) k (≤ℚ-refl (int (pos 1)))))))
+step a b q h k = last (int-< a (b +ℤ pos 1)
+    (subst (λ (t : ℚ). int a <ℚ t) (sym (int-add b (pos 1)))
+    (<-≤-trans (int a) (q +ℚ int (pos 1)) (int b +ℚ int (pos 1)) h (≤ℚ-add q (int b) (int (pos 1)) (int (pos 1)) k (≤ℚ-refl (int (pos 1)))))))
   where
     last : a <ℤ (b +ℤ pos 1) → a ≤ℤ b
     last m = omega (arith, ints, m)
@@ -53,13 +62,18 @@ ceiling-unique q c h k = le_antisym c (ceiling q) (step c (ceiling q) q k (ceili
 
 -- the least whole number that is not below q
 pub ceiling-least : (q : ℚ) (c : ℤ) → ceiling q ≤ℤ c ↔ q ≤ℚ int c
-ceiling-least q c = (λ h. ≤ℚ-trans q (int (ceiling q)) (int c) (ceiling-above q) (≤ℚ-int (ceiling q) c h), λ k. step (ceiling q) c q (ceiling-below q) k)
+ceiling-least q c = (
+  λ h. ≤ℚ-trans q (int (ceiling q)) (int c) (ceiling-above q)
+      (≤ℚ-int (ceiling q) c h),
+  λ k. step (ceiling q) c q (ceiling-below q) k,
+)
 
 pub ceiling-mono : (p q : ℚ) → p ≤ℚ q → ceiling p ≤ℤ ceiling q
 ceiling-mono p q h = (ceiling-least p (ceiling q)).1 (≤ℚ-trans p q (int (ceiling q)) h (ceiling-above q))
 
 pub ceiling-int : (z : ℤ) → ceiling (int z) ≡ z
-ceiling-int z = sym (ceiling-unique (int z) z (≤ℚ-refl (int z)) (subst (λ (t : ℚ). int z <ℚ t) (int-add z (pos 1)) (<ℚ-int z (z +ℤ pos 1) (omega (arith, ints)))))
+ceiling-int z = sym (ceiling-unique (int z) z (≤ℚ-refl (int z))
+    (subst (λ (t : ℚ). int z <ℚ t) (int-add z (pos 1)) (<ℚ-int z (z +ℤ pos 1) (omega (arith, ints)))))
 
 pub ceiling-nonneg : (q : ℚ) → int (pos 0) ≤ℚ q → pos 0 ≤ℤ ceiling q
 ceiling-nonneg q h = subst (λ (t : ℤ). t ≤ℤ ceiling q) (ceiling-int (pos 0)) (ceiling-mono (int (pos 0)) q h)

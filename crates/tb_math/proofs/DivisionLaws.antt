@@ -14,11 +14,13 @@ use Rattle.tb_math.specs.Rational.{ℚ, ℚ_set, int, one_over, ratio, ◌*ℚ�
 use Rattle.tb_math.specs.Division.{upside_down, inverse}
 use Rattle.tb_math.proofs.RationalLaws.{*ℚ_comm, one_over_cancel}
 use Rattle.tb_math.proofs.RationalOrder.{≤ℚ-antisym, ≤ℚ-refl, ≤ℚ-square, ≤ℚ-mul_nonneg}
-use Rattle.tb_math.proofs.StrictOrder.{int-≤, ≤ℚ-linear}
+use Rattle.tb_math.proofs.StrictOrder.{int-≤, ≤ℚ-linear, <ℚ-≤}
+use Rattle.tb_math.proofs.RationalProducts.{≤ℚ-mul}
 use Rattle.tb_math.proofs.ReadRationals.{by_reading, by_given, reading, none, given}
 use Rattle.tb_math.proofs.ReadIntegers as I
 
-at_fraction : (z : ℤ) (n : ℕ) (h : 0 < n) → (◌≡◌ {A = ℚ} (mk (record { numerator = z; denominator = n; positive = h })) (mk (whole (pos 0))) → ⊥) → (record { numerator = z; denominator = n; positive = h }) *F upside_down z n ≈ whole (pos 1)
+at_fraction : (z : ℤ) (n : ℕ) (h : 0 < n) → (◌≡◌ {A = ℚ} (mk (record { numerator = z; denominator = n; positive = h })) (mk (whole (pos 0))) → ⊥) →
+    (record { numerator = z; denominator = n; positive = h }) *F upside_down z n ≈ whole (pos 1)
 at_fraction (pos zero) n h k = absurd (k (sound (record { same = I.by_reading {atoms = pos n ∷ []} (search I.reading) (search I.reading) refl })))
 at_fraction (pos (suc j)) n h k = record { same = I.by_reading {atoms = pos (suc j) ∷ pos n ∷ []} (search I.reading) (search I.reading) refl }
 at_fraction (negsuc j) n h k = record { same = signs (pos (suc j)) (pos n) }
@@ -28,7 +30,8 @@ at_fraction (negsuc j) n h k = record { same = signs (pos (suc j)) (pos n) }
 
 pub inverse-cancel : (q : ℚ) → (q ≡ int (pos 0) → ⊥) → q *ℚ inverse q ≡ int (pos 1)
 unfolding ◌*ℚ◌ int inverse
-inverse-cancel = ind {r = ◌≈◌} {β = λ q. (q ≡ int (pos 0) → ⊥) → q *ℚ inverse q ≡ int (pos 1)} (λ q. Π_prop (λ _. ℚ_set (q *ℚ inverse q) (int (pos 1))))
+inverse-cancel = ind {r = ◌≈◌} {β = λ q. (q ≡ int (pos 0) → ⊥) → q *ℚ inverse q ≡ int (pos 1)}
+    (λ q. Π_prop (λ _. ℚ_set (q *ℚ inverse q) (int (pos 1))))
     (λ x k. sound (at_fraction x.numerator x.denominator x.positive k))
 
 pub inverse-zero : inverse (int (pos 0)) ≡ int (pos 0)
@@ -56,7 +59,13 @@ inverse-unique p q e = by_given {atoms = p ∷ q ∷ inverse p ∷ []} (search r
 
 -- q is 0 or not
 zero_or_not : (q : ℚ) → (q ≡ int (pos 0)) ⊎ (q ≡ int (pos 0) → ⊥)
-zero_or_not q = elim (≤ℚ-linear q (int (pos 0))) [ inl l ↦ elim (≤ℚ-linear (int (pos 0)) q) [ inl m ↦ inl (≤ℚ-antisym q (int (pos 0)) l m) | inr m ↦ inr (λ e. m.not_above (subst (λ (t : ℚ). int (pos 0) ≤ℚ t) (sym e) (≤ℚ-refl (int (pos 0))))) ] | inr l ↦ inr (λ e. l.not_above (subst (λ (t : ℚ). t ≤ℚ int (pos 0)) (sym e) (≤ℚ-refl (int (pos 0))))) ]
+zero_or_not q = elim (≤ℚ-linear q (int (pos 0))) [
+  | inl l ↦ elim (≤ℚ-linear (int (pos 0)) q) [
+    | inl m ↦ inl (≤ℚ-antisym q (int (pos 0)) l m)
+    | inr m ↦ inr (λ e. m.not_above (subst (λ (t : ℚ). int (pos 0) ≤ℚ t) (sym e) (≤ℚ-refl (int (pos 0)))))
+  ]
+  | inr l ↦ inr (λ e. l.not_above (subst (λ (t : ℚ). t ≤ℚ int (pos 0)) (sym e) (≤ℚ-refl (int (pos 0)))))
+]
 
 zero-times : (q : ℚ) → int (pos 0) *ℚ q ≡ int (pos 0)
 zero-times q = by_reading {atoms = q ∷ []} (search reading) (search reading) refl
@@ -68,10 +77,12 @@ pub inverse-mul : (p q : ℚ) → inverse (p *ℚ q) ≡ inverse p *ℚ inverse 
 inverse-mul p q = by_cases (zero_or_not p) (zero_or_not q)
   where
     left : p ≡ int (pos 0) → inverse (p *ℚ q) ≡ inverse p *ℚ inverse q
-    left e = ap inverse (ap (λ (t : ℚ). t *ℚ q) e ∙ zero-times q) ∙ inverse-zero ∙ sym (ap (λ (t : ℚ). inverse t *ℚ inverse q) e ∙ ap (λ (t : ℚ). t *ℚ inverse q) inverse-zero ∙ zero-times (inverse q))
+    left e = ap inverse (ap (λ (t : ℚ). t *ℚ q) e ∙ zero-times q) ∙ inverse-zero
+        ∙ sym (ap (λ (t : ℚ). inverse t *ℚ inverse q) e ∙ ap (λ (t : ℚ). t *ℚ inverse q) inverse-zero ∙ zero-times (inverse q))
 
     right : q ≡ int (pos 0) → inverse (p *ℚ q) ≡ inverse p *ℚ inverse q
-    right e = ap inverse (ap (λ (t : ℚ). p *ℚ t) e ∙ times-zero p) ∙ inverse-zero ∙ sym (ap (λ (t : ℚ). inverse p *ℚ inverse t) e ∙ ap (λ (t : ℚ). inverse p *ℚ t) inverse-zero ∙ times-zero (inverse p))
+    right e = ap inverse (ap (λ (t : ℚ). p *ℚ t) e ∙ times-zero p) ∙ inverse-zero
+        ∙ sym (ap (λ (t : ℚ). inverse p *ℚ inverse t) e ∙ ap (λ (t : ℚ). inverse p *ℚ t) inverse-zero ∙ times-zero (inverse p))
 
     both : p *ℚ inverse p ≡ int (pos 1) → q *ℚ inverse q ≡ int (pos 1) → (p *ℚ q) *ℚ (inverse p *ℚ inverse q) ≡ int (pos 1)
     both e f = by_given {atoms = p ∷ q ∷ inverse p ∷ inverse q ∷ []} (search reading) (search reading)
@@ -99,18 +110,42 @@ inverse-int zero = inverse-zero ∙ sym one_over-zero
 inverse-int (suc n) = sym (inverse-unique (int (pos (suc n))) (one_over (suc n)) (one_over_cancel (suc n) (omega arith)))
 
 pub inverse-ratio : (m n : ℕ) → inverse (ratio (pos m) n) ≡ ratio (pos n) m
-inverse-ratio m n = inverse-mul (int (pos m)) (one_over n) ∙ ap (λ (t : ℚ). t *ℚ inverse (one_over n)) (inverse-int m) ∙ ap (λ (t : ℚ). one_over m *ℚ t) (ap inverse (sym (inverse-int n)) ∙ inverse-inverse (int (pos n))) ∙ *ℚ_comm (one_over m) (int (pos n))
+inverse-ratio m n = inverse-mul (int (pos m)) (one_over n) ∙ ap (λ (t : ℚ). t *ℚ inverse (one_over n)) (inverse-int m)
+    ∙ ap (λ (t : ℚ). one_over m *ℚ t) (ap inverse (sym (inverse-int n)) ∙ inverse-inverse (int (pos n))) ∙ *ℚ_comm (one_over m) (int (pos n))
 
 pub inverse-nonneg : (q : ℚ) → int (pos 0) ≤ℚ q → int (pos 0) ≤ℚ inverse q
 inverse-nonneg q h = by_cases (zero_or_not q)
   where
     squared : q *ℚ inverse q ≡ int (pos 1) → q *ℚ (inverse q *ℚ inverse q) ≡ inverse q
-    squared e = by_given {atoms = q ∷ inverse q ∷ []} (search reading) (search reading) (given (inverse q) (q *ℚ inverse q) (int (pos 1)) (search reading) (search reading) (search reading) e none) refl
+    squared e = by_given {atoms = q ∷ inverse q ∷ []} (search reading) (search reading)
+        (given (inverse q) (q *ℚ inverse q) (int (pos 1)) (search reading) (search reading) (search reading) e none) refl
 
     by_cases : (q ≡ int (pos 0)) ⊎ (q ≡ int (pos 0) → ⊥) → int (pos 0) ≤ℚ inverse q
     by_cases (inl e) = subst (λ (t : ℚ). int (pos 0) ≤ℚ t) (sym (ap inverse e ∙ inverse-zero)) (≤ℚ-refl (int (pos 0)))
-    by_cases (inr k) = subst (λ (t : ℚ). int (pos 0) ≤ℚ t) (squared (inverse-cancel q k)) (≤ℚ-mul_nonneg q (inverse q *ℚ inverse q) h (≤ℚ-square (inverse q)))
+    by_cases (inr k) = subst (λ (t : ℚ). int (pos 0) ≤ℚ t) (squared (inverse-cancel q k))
+        (≤ℚ-mul_nonneg q (inverse q *ℚ inverse q) h (≤ℚ-square (inverse q)))
 
 -- a positive number is not 0, so its inverse cancels
 pub inverse-positive : (q : ℚ) → int (pos 0) <ℚ q → q *ℚ inverse q ≡ int (pos 1)
 inverse-positive q h = inverse-cancel q (λ e. h.not_above (subst (λ (t : ℚ). t ≤ℚ int (pos 0)) (sym e) (≤ℚ-refl (int (pos 0)))))
+
+pub inverse-is_positive : (q : ℚ) → int (pos 0) <ℚ q → int (pos 0) <ℚ inverse q
+inverse-is_positive q h = record {
+  not_above = λ l. zero_not_one (sym (times-zero q)
+      ∙ ap (λ (t : ℚ). q *ℚ t) (sym (≤ℚ-antisym (inverse q) (int (pos 0)) l (inverse-nonneg q (<ℚ-≤ (int (pos 0)) q h)))) ∙ inverse-positive q h);
+}
+
+-- a product of positive numbers is positive
+pub product-is_positive : (p q : ℚ) → int (pos 0) <ℚ p → int (pos 0) <ℚ q → int (pos 0) <ℚ p *ℚ q
+product-is_positive p q h k = record { not_above = λ l. k.not_above (subst (λ (t : ℚ). t ≤ℚ int (pos 0)) back (subst (λ (t : ℚ). inverse p *ℚ (p *ℚ q) ≤ℚ t) (times-zero (inverse p)) (≤ℚ-mul (inverse p) (p *ℚ q) (int (pos 0)) (inverse-nonneg p (<ℚ-≤ (int (pos 0)) p h)) l))) }
+  where
+    back : inverse p *ℚ (p *ℚ q) ≡ q
+    back = by_given {atoms = p ∷ q ∷ inverse p ∷ []} (search reading) (search reading)
+        (given q (p *ℚ inverse p) (int (pos 1)) (search reading) (search reading) (search reading) (inverse-positive p h) none) refl
+
+-- products of positive numbers are positive
+pub <ℚ-mul_positive : (p q : ℚ) → int (pos 0) <ℚ p → int (pos 0) <ℚ q → int (pos 0) <ℚ p *ℚ q
+<ℚ-mul_positive p q h k = record { not_above = λ l. k.not_above (subst (λ (t : ℚ). t ≤ℚ int (pos 0)) (without (inverse p) (inverse-positive p h)) (subst (λ (t : ℚ). inverse p *ℚ (p *ℚ q) ≤ℚ t) (times-zero (inverse p)) (≤ℚ-mul (inverse p) (p *ℚ q) (int (pos 0)) (inverse-nonneg p (<ℚ-≤ (int (pos 0)) p h)) l))) }
+  where
+    without : (v : ℚ) → p *ℚ v ≡ int (pos 1) → v *ℚ (p *ℚ q) ≡ q
+    without v e = by_given {atoms = p ∷ q ∷ v ∷ []} (search reading) (search reading) (given q (p *ℚ v) (int (pos 1)) (search reading) (search reading) (search reading) e none) refl

@@ -22,7 +22,22 @@ pub add_neg : (a : ℤ) → a +ℤ neg_ℤ a ≡ pos 0
 add_neg a = omega (arith, ints)
 
 abbrev pub ring_ℤ : CommutativeRing ℤ
-ring_ℤ = record { plus = ◌+ℤ◌; times = ◌*ℤ◌; opposite = neg_ℤ; inj = λ z. z; plus-assoc = add_assoc; plus-comm = add_comm; plus-zero = add_zero; plus-opposite = add_neg; times-assoc = mul_assoc; times-comm = *ℤ_comm; times-one = one-mul; times-plus = dist_l; inj-plus = λ a b. refl; inj-times = λ a b. refl }
+ring_ℤ = record {
+  plus = ◌+ℤ◌;
+  times = ◌*ℤ◌;
+  opposite = neg_ℤ;
+  inj = λ z. z;
+  plus-assoc = add_assoc;
+  plus-comm = add_comm;
+  plus-zero = add_zero;
+  plus-opposite = add_neg;
+  times-assoc = mul_assoc;
+  times-comm = *ℤ_comm;
+  times-one = one-mul;
+  times-plus = dist_l;
+  inj-plus = λ a b. refl;
+  inj-times = λ a b. refl;
+}
 
 -- two expressions with one normal form have one value
 pub ring : (atoms : List ℤ) (a b : Expression) → all_zero (norm (a ⊖ b)) ≡ true → value ring_ℤ atoms a ≡ value ring_ℤ atoms b

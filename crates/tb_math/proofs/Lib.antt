@@ -18,3 +18,6 @@ pub mod QuadraticForms
 pub mod CutForms
 pub mod LineLaws
 pub mod DivisionLaws
+pub mod RationalSums
+pub mod WeakDuality
+pub mod Ratios

@@ -26,7 +26,11 @@ add_lit a (node v p q) = node v p (add_lit a q)
 
 abbrev pub merge : (Polynomial → Polynomial) → (Polynomial → Polynomial) → ℕ → Polynomial → Polynomial → Polynomial → Polynomial
 merge f g v p q (lit b) = node v p (g (lit b))
-merge f g v p q (node w r s) = elim (compare v w) [ Ordering.lt ↦ node v p (g (node w r s)) | Ordering.eq ↦ node v (f r) (g s) | Ordering.gt ↦ node w r (merge f g v p q s) ]
+merge f g v p q (node w r s) = elim (compare v w) [
+  | Ordering.lt ↦ node v p (g (node w r s))
+  | Ordering.eq ↦ node v (f r) (g s)
+  | Ordering.gt ↦ node w r (merge f g v p q s)
+]
 
 abbrev pub add : Polynomial → Polynomial → Polynomial
 add (lit a) y = add_lit a y
@@ -34,7 +38,11 @@ add (node v p q) y = merge (add p) (add q) v p q y
 
 abbrev pub times_var : ℕ → Polynomial → Polynomial
 times_var v (lit a) = node v (lit a) (lit (pos 0))
-times_var v (node w r s) = elim (compare v w) [ Ordering.lt ↦ node v (node w r s) (lit (pos 0)) | Ordering.eq ↦ node v (node w r s) (lit (pos 0)) | Ordering.gt ↦ node w (times_var v r) (times_var v s) ]
+times_var v (node w r s) = elim (compare v w) [
+  | Ordering.lt ↦ node v (node w r s) (lit (pos 0))
+  | Ordering.eq ↦ node v (node w r s) (lit (pos 0))
+  | Ordering.gt ↦ node w (times_var v r) (times_var v s)
+]
 
 abbrev pub scale : ℤ → Polynomial → Polynomial
 scale a (lit b) = lit (a *ℤ b)

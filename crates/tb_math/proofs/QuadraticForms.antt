@@ -13,7 +13,8 @@ use Rattle.tb_math.proofs.RationalProducts.{cancel_le_ℚ}
 use Rattle.tb_math.proofs.ReadRationals.{by_reading, by_squares, reading, none, given, nil, square}
 
 abbrev pub spread : ℚ → ℚ → ℚ → ℚ → ℚ
-spread a b c d = int (pos 4) *ℚ (a *ℚ a +ℚ b *ℚ b +ℚ c *ℚ c +ℚ d *ℚ d) +ℚ int (pos 4) *ℚ (a *ℚ b +ℚ a *ℚ c +ℚ b *ℚ d +ℚ c *ℚ d) +ℚ int (pos 2) *ℚ (a *ℚ d +ℚ b *ℚ c)
+spread a b c d = int (pos 4) *ℚ (a *ℚ a +ℚ b *ℚ b +ℚ c *ℚ c +ℚ d *ℚ d) +ℚ int (pos 4) *ℚ (a *ℚ b +ℚ a *ℚ c +ℚ b *ℚ d +ℚ c *ℚ d)
+    +ℚ int (pos 2) *ℚ (a *ℚ d +ℚ b *ℚ c)
 
 abbrev pub through : ℚ → ℚ → ℚ
 through f g = f *ℚ f +ℚ f *ℚ g +ℚ g *ℚ g
@@ -43,16 +44,22 @@ through-mean f g = by_squares {atoms = f ∷ g ∷ []} (search reading depth 60 
 
 -- r times the product of the two sums is at most p times the one form and q times the other,
 -- where t is the quotient of the sums at which both sides are equal: 9 p t = 2 r and 3 q = 2 r t
-pub product_le : (p q r t : ℚ) (a b c d f g : ℚ) → int (pos 0) ≤ℚ p → int (pos 0) ≤ℚ q → int (pos 9) *ℚ p *ℚ t ≡ int (pos 2) *ℚ r → int (pos 3) *ℚ q ≡ int (pos 2) *ℚ r *ℚ t →
+pub product_le : (p q r t : ℚ) (a b c d f g : ℚ) → int (pos 0) ≤ℚ p → int (pos 0) ≤ℚ q → int (pos 9) *ℚ p *ℚ t ≡ int (pos 2) *ℚ r →
+    int (pos 3) *ℚ q ≡ int (pos 2) *ℚ r *ℚ t →
     r *ℚ ((a +ℚ b +ℚ c +ℚ d) *ℚ (f +ℚ g)) ≤ℚ p *ℚ spread a b c d +ℚ q *ℚ through f g
-product_le p q r t a b c d f g hp hq e1 e2 = cancel_le_ℚ 4 (r *ℚ ((a +ℚ b +ℚ c +ℚ d) *ℚ (f +ℚ g))) (p *ℚ spread a b c d +ℚ q *ℚ through f g) (omega arith)
+product_le p q r t a b c d f g hp hq e1 e2 =
+    cancel_le_ℚ 4 (r *ℚ ((a +ℚ b +ℚ c +ℚ d) *ℚ (f +ℚ g))) (p *ℚ spread a b c d +ℚ q *ℚ through f g) (omega arith)
     (by_squares {atoms = p ∷ q ∷ r ∷ t ∷ a ∷ b ∷ c ∷ d ∷ f ∷ g ∷ []} (search reading depth 60 fits 100000) (search reading depth 60 fits 100000)
-    (square (int (pos 9) *ℚ p) ((a +ℚ b +ℚ c +ℚ d) -ℚ t *ℚ (f +ℚ g)) (search reading) (search reading depth 20 fits 20000) (≤ℚ-mul_nonneg (int (pos 9)) p (int-nonneg 9) hp)
-    (square (int (pos 3) *ℚ p) (a -ℚ b +ℚ c -ℚ d) (search reading) (search reading depth 20 fits 20000) (≤ℚ-mul_nonneg (int (pos 3)) p (int-nonneg 3) hp)
-    (square (int (pos 3) *ℚ p) (a +ℚ b -ℚ c -ℚ d) (search reading) (search reading depth 20 fits 20000) (≤ℚ-mul_nonneg (int (pos 3)) p (int-nonneg 3) hp)
+    (square (int (pos 9) *ℚ p) ((a +ℚ b +ℚ c +ℚ d) -ℚ t *ℚ (f +ℚ g)) (search reading) (search reading depth 20 fits 20000)
+    (≤ℚ-mul_nonneg (int (pos 9)) p (int-nonneg 9) hp)
+    (square (int (pos 3) *ℚ p) (a -ℚ b +ℚ c -ℚ d) (search reading) (search reading depth 20 fits 20000)
+    (≤ℚ-mul_nonneg (int (pos 3)) p (int-nonneg 3) hp)
+    (square (int (pos 3) *ℚ p) (a +ℚ b -ℚ c -ℚ d) (search reading) (search reading depth 20 fits 20000)
+    (≤ℚ-mul_nonneg (int (pos 3)) p (int-nonneg 3) hp)
     (square p (a -ℚ b -ℚ c +ℚ d) (search reading) (search reading depth 20 fits 20000) hp
     (square q (f -ℚ g) (search reading) (search reading depth 20 fits 20000) hq nil)))))
-    (given ((int (pos 2) *ℚ (a +ℚ b +ℚ c +ℚ d) -ℚ t *ℚ (f +ℚ g)) *ℚ (f +ℚ g)) (int (pos 9) *ℚ p *ℚ t) (int (pos 2) *ℚ r) (search reading depth 40 fits 20000) (search reading) (search reading) e1
+    (given ((int (pos 2) *ℚ (a +ℚ b +ℚ c +ℚ d) -ℚ t *ℚ (f +ℚ g)) *ℚ (f +ℚ g)) (int (pos 9) *ℚ p *ℚ t) (int (pos 2) *ℚ r)
+    (search reading depth 40 fits 20000) (search reading) (search reading) e1
     (given ((f +ℚ g) *ℚ (f +ℚ g)) (int (pos 3) *ℚ q) (int (pos 2) *ℚ r *ℚ t) (search reading) (search reading) (search reading) e2 none)) refl)
 
 -- and where the second form is a square: 9 p t = 2 r and 2 q = r t
@@ -60,17 +67,25 @@ pub face_product_le : (p q r t : ℚ) (a b c d f : ℚ) → int (pos 0) ≤ℚ p
     r *ℚ ((a +ℚ b +ℚ c +ℚ d) *ℚ f) ≤ℚ p *ℚ spread a b c d +ℚ q *ℚ (f *ℚ f)
 face_product_le p q r t a b c d f hp e1 e2 = cancel_le_ℚ 4 (r *ℚ ((a +ℚ b +ℚ c +ℚ d) *ℚ f)) (p *ℚ spread a b c d +ℚ q *ℚ (f *ℚ f)) (omega arith)
     (by_squares {atoms = p ∷ q ∷ r ∷ t ∷ a ∷ b ∷ c ∷ d ∷ f ∷ []} (search reading depth 60 fits 100000) (search reading depth 60 fits 100000)
-    (square (int (pos 9) *ℚ p) ((a +ℚ b +ℚ c +ℚ d) -ℚ t *ℚ f) (search reading) (search reading depth 20 fits 20000) (≤ℚ-mul_nonneg (int (pos 9)) p (int-nonneg 9) hp)
-    (square (int (pos 3) *ℚ p) (a -ℚ b +ℚ c -ℚ d) (search reading) (search reading depth 20 fits 20000) (≤ℚ-mul_nonneg (int (pos 3)) p (int-nonneg 3) hp)
-    (square (int (pos 3) *ℚ p) (a +ℚ b -ℚ c -ℚ d) (search reading) (search reading depth 20 fits 20000) (≤ℚ-mul_nonneg (int (pos 3)) p (int-nonneg 3) hp)
+    (square (int (pos 9) *ℚ p) ((a +ℚ b +ℚ c +ℚ d) -ℚ t *ℚ f) (search reading) (search reading depth 20 fits 20000)
+    (≤ℚ-mul_nonneg (int (pos 9)) p (int-nonneg 9) hp)
+    (square (int (pos 3) *ℚ p) (a -ℚ b +ℚ c -ℚ d) (search reading) (search reading depth 20 fits 20000)
+    (≤ℚ-mul_nonneg (int (pos 3)) p (int-nonneg 3) hp)
+    (square (int (pos 3) *ℚ p) (a +ℚ b -ℚ c -ℚ d) (search reading) (search reading depth 20 fits 20000)
+    (≤ℚ-mul_nonneg (int (pos 3)) p (int-nonneg 3) hp)
     (square p (a -ℚ b -ℚ c +ℚ d) (search reading) (search reading depth 20 fits 20000) hp nil))))
-    (given ((int (pos 2) *ℚ (a +ℚ b +ℚ c +ℚ d) -ℚ t *ℚ f) *ℚ f) (int (pos 9) *ℚ p *ℚ t) (int (pos 2) *ℚ r) (search reading depth 40 fits 20000) (search reading) (search reading) e1
+    (given ((int (pos 2) *ℚ (a +ℚ b +ℚ c +ℚ d) -ℚ t *ℚ f) *ℚ f) (int (pos 9) *ℚ p *ℚ t) (int (pos 2) *ℚ r) (search reading depth 40 fits 20000)
+    (search reading) (search reading) e1
     (given (int (pos 2) *ℚ (f *ℚ f)) (int (pos 2) *ℚ q) (r *ℚ t) (search reading) (search reading) (search reading) e2 none)) refl)
 
 -- ---- the same with the other sign
-pub product_le-neg : (p q r t : ℚ) (a b c d f g : ℚ) → int (pos 0) ≤ℚ p → int (pos 0) ≤ℚ q → int (pos 9) *ℚ p *ℚ t ≡ int (pos 2) *ℚ r → int (pos 3) *ℚ q ≡ int (pos 2) *ℚ r *ℚ t →
+pub product_le-neg : (p q r t : ℚ) (a b c d f g : ℚ) → int (pos 0) ≤ℚ p → int (pos 0) ≤ℚ q → int (pos 9) *ℚ p *ℚ t ≡ int (pos 2) *ℚ r →
+    int (pos 3) *ℚ q ≡ int (pos 2) *ℚ r *ℚ t →
     neg_ℚ (r *ℚ ((a +ℚ b +ℚ c +ℚ d) *ℚ (f +ℚ g))) ≤ℚ p *ℚ spread a b c d +ℚ q *ℚ through f g
-product_le-neg p q r t a b c d f g hp hq e1 e2 = subst (λ (s : ℚ). s ≤ℚ p *ℚ spread a b c d +ℚ q *ℚ through f g) left (subst (λ (s : ℚ). r *ℚ ((a +ℚ b +ℚ c +ℚ d) *ℚ (neg_ℚ f +ℚ neg_ℚ g)) ≤ℚ s) right (product_le p q r t a b c d (neg_ℚ f) (neg_ℚ g) hp hq e1 e2))
+product_le-neg p q r t a b c d f g hp hq e1 e2 =
+    subst (λ (s : ℚ). s ≤ℚ p *ℚ spread a b c d
+    +ℚ q *ℚ through f g) left (subst (λ (s : ℚ). r *ℚ ((a +ℚ b +ℚ c +ℚ d) *ℚ (neg_ℚ f +ℚ neg_ℚ g)) ≤ℚ s) right (product_le p q r t a b c d (neg_ℚ f)
+    (neg_ℚ g) hp hq e1 e2))
   where
     left : r *ℚ ((a +ℚ b +ℚ c +ℚ d) *ℚ (neg_ℚ f +ℚ neg_ℚ g)) ≡ neg_ℚ (r *ℚ ((a +ℚ b +ℚ c +ℚ d) *ℚ (f +ℚ g)))
     left = by_reading {atoms = r ∷ a ∷ b ∷ c ∷ d ∷ f ∷ g ∷ []} (search reading depth 40 fits 20000) (search reading depth 40 fits 20000) refl
@@ -80,7 +95,9 @@ product_le-neg p q r t a b c d f g hp hq e1 e2 = subst (λ (s : ℚ). s ≤ℚ p
 
 pub face_product_le-neg : (p q r t : ℚ) (a b c d f : ℚ) → int (pos 0) ≤ℚ p → int (pos 9) *ℚ p *ℚ t ≡ int (pos 2) *ℚ r → int (pos 2) *ℚ q ≡ r *ℚ t →
     neg_ℚ (r *ℚ ((a +ℚ b +ℚ c +ℚ d) *ℚ f)) ≤ℚ p *ℚ spread a b c d +ℚ q *ℚ (f *ℚ f)
-face_product_le-neg p q r t a b c d f hp e1 e2 = subst (λ (s : ℚ). s ≤ℚ p *ℚ spread a b c d +ℚ q *ℚ (f *ℚ f)) left (subst (λ (s : ℚ). r *ℚ ((a +ℚ b +ℚ c +ℚ d) *ℚ neg_ℚ f) ≤ℚ s) right (face_product_le p q r t a b c d (neg_ℚ f) hp e1 e2))
+face_product_le-neg p q r t a b c d f hp e1 e2 =
+    subst (λ (s : ℚ). s ≤ℚ p *ℚ spread a b c d
+    +ℚ q *ℚ (f *ℚ f)) left (subst (λ (s : ℚ). r *ℚ ((a +ℚ b +ℚ c +ℚ d) *ℚ neg_ℚ f) ≤ℚ s) right (face_product_le p q r t a b c d (neg_ℚ f) hp e1 e2))
   where
     left : r *ℚ ((a +ℚ b +ℚ c +ℚ d) *ℚ neg_ℚ f) ≡ neg_ℚ (r *ℚ ((a +ℚ b +ℚ c +ℚ d) *ℚ f))
     left = by_reading {atoms = r ∷ a ∷ b ∷ c ∷ d ∷ f ∷ []} (search reading depth 40 fits 20000) (search reading depth 40 fits 20000) refl

@@ -12,27 +12,45 @@ use Rattle.tb_math.proofs.ReadIntegers.{by_reading, reading}
 
 +F-assoc : (x y z : Fraction) → x +F y +F z ≈ x +F (y +F z)
 +F-assoc x y z =
-    record { same = by_reading {atoms = x.numerator ∷ pos x.denominator ∷ y.numerator ∷ pos y.denominator ∷ z.numerator ∷ pos z.denominator ∷ []} (search reading depth 40 fits 20000) (search reading depth 40 fits 20000) refl }
+    record {
+      same = by_reading {atoms = x.numerator ∷ pos x.denominator ∷ y.numerator ∷ pos y.denominator ∷ z.numerator ∷ pos z.denominator ∷ []}
+          (search reading depth 40 fits 20000) (search reading depth 40 fits 20000) refl;
+    }
 
 +F-zero : (x : Fraction) → x +F whole (pos 0) ≈ x
 +F-zero x =
-    record { same = by_reading {atoms = x.numerator ∷ pos x.denominator ∷ []} (search reading depth 40 fits 20000) (search reading depth 40 fits 20000) refl }
+    record {
+      same = by_reading {atoms = x.numerator ∷ pos x.denominator ∷ []} (search reading depth 40 fits 20000)
+          (search reading depth 40 fits 20000) refl;
+    }
 
 +F-neg : (x : Fraction) → x +F neg_F x ≈ whole (pos 0)
 +F-neg x =
-    record { same = by_reading {atoms = x.numerator ∷ pos x.denominator ∷ []} (search reading depth 40 fits 20000) (search reading depth 40 fits 20000) refl }
+    record {
+      same = by_reading {atoms = x.numerator ∷ pos x.denominator ∷ []} (search reading depth 40 fits 20000)
+          (search reading depth 40 fits 20000) refl;
+    }
 
 *F-assoc : (x y z : Fraction) → x *F y *F z ≈ x *F (y *F z)
 *F-assoc x y z =
-    record { same = by_reading {atoms = x.numerator ∷ pos x.denominator ∷ y.numerator ∷ pos y.denominator ∷ z.numerator ∷ pos z.denominator ∷ []} (search reading depth 40 fits 20000) (search reading depth 40 fits 20000) refl }
+    record {
+      same = by_reading {atoms = x.numerator ∷ pos x.denominator ∷ y.numerator ∷ pos y.denominator ∷ z.numerator ∷ pos z.denominator ∷ []}
+          (search reading depth 40 fits 20000) (search reading depth 40 fits 20000) refl;
+    }
 
 *F-one : (x : Fraction) → whole (pos 1) *F x ≈ x
 *F-one x =
-    record { same = by_reading {atoms = x.numerator ∷ pos x.denominator ∷ []} (search reading depth 40 fits 20000) (search reading depth 40 fits 20000) refl }
+    record {
+      same = by_reading {atoms = x.numerator ∷ pos x.denominator ∷ []} (search reading depth 40 fits 20000)
+          (search reading depth 40 fits 20000) refl;
+    }
 
 *F-dist : (x y z : Fraction) → x *F (y +F z) ≈ x *F y +F x *F z
 *F-dist x y z =
-    record { same = by_reading {atoms = x.numerator ∷ pos x.denominator ∷ y.numerator ∷ pos y.denominator ∷ z.numerator ∷ pos z.denominator ∷ []} (search reading depth 40 fits 20000) (search reading depth 40 fits 20000) refl }
+    record {
+      same = by_reading {atoms = x.numerator ∷ pos x.denominator ∷ y.numerator ∷ pos y.denominator ∷ z.numerator ∷ pos z.denominator ∷ []}
+          (search reading depth 40 fits 20000) (search reading depth 40 fits 20000) refl;
+    }
 
 ind1 : (f g : ℚ → ℚ) → ((x : Fraction) → f (mk x) ≡ g (mk x)) → (p : ℚ) → f p ≡ g p
 ind1 f g h = ind {r = ◌≈◌} {β = λ p. f p ≡ g p} (λ p. ℚ_set (f p) (g p)) h

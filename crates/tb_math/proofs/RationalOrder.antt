@@ -40,7 +40,14 @@ common : (a p b q r : ℤ) → (a *ℤ q +ℤ b *ℤ p) *ℤ (r *ℤ q) ≡ q *�
 common a p b q r = by_reading {atoms = a ∷ p ∷ b ∷ q ∷ r ∷ []} (search reading depth 40 fits 20000) (search reading depth 40 fits 20000) refl
 
 +F-mono : (x y z : Fraction) → x ≼ y → x +F z ≼ y +F z
-+F-mono x y z h = record { at_most = sum_le (pos z.denominator *ℤ z.numerator) (pos x.denominator *ℤ pos y.denominator) (pos y.denominator *ℤ pos x.denominator) (mul_le (pos z.denominator *ℤ pos z.denominator) (x.numerator *ℤ pos y.denominator) (y.numerator *ℤ pos x.denominator) (pos-nonneg (z.denominator * z.denominator)) h.at_most) (common x.numerator (pos x.denominator) z.numerator (pos z.denominator) (pos y.denominator)) (common y.numerator (pos y.denominator) z.numerator (pos z.denominator) (pos x.denominator)) (*ℤ_comm (pos x.denominator) (pos y.denominator)) }
++F-mono x y z h = record {
+  at_most = sum_le (pos z.denominator *ℤ z.numerator) (pos x.denominator *ℤ pos y.denominator)
+      (pos y.denominator *ℤ pos x.denominator)
+      (mul_le (pos z.denominator *ℤ pos z.denominator) (x.numerator *ℤ pos y.denominator) (y.numerator *ℤ pos x.denominator)
+      (pos-nonneg (z.denominator * z.denominator)) h.at_most)
+      (common x.numerator (pos x.denominator) z.numerator (pos z.denominator) (pos y.denominator))
+      (common y.numerator (pos y.denominator) z.numerator (pos z.denominator) (pos x.denominator)) (*ℤ_comm (pos x.denominator) (pos y.denominator));
+}
   where
     sum_le : {a b c d : ℤ} (e u v : ℤ) → a ≤ℤ b → c ≡ a +ℤ e *ℤ u → d ≡ b +ℤ e *ℤ v → u ≡ v → c ≤ℤ d
     sum_le e u v h f g k = let m = ap (λ (t : ℤ). e *ℤ t) k in omega (arith, ints, h, f, g, m)
@@ -53,16 +60,24 @@ mono_l = ind {r = ◌≈◌} {β = λ p. (q r : ℚ) → p ≤ℚ q → p +ℚ r
     (λ z h. ≤ℚ-from (x +F z) (y +F z) (+F-mono x y z (≤ℚ-to x y h)))))
 
 pub ≤ℚ-add : (p p' q q' : ℚ) → p ≤ℚ p' → q ≤ℚ q' → p +ℚ q ≤ℚ p' +ℚ q'
-≤ℚ-add p p' q q' h k = ≤ℚ-trans (p +ℚ q) (p' +ℚ q) (p' +ℚ q') (mono_l p p' q h) (subst (λ (t : ℚ). t ≤ℚ p' +ℚ q') (+ℚ_comm q p') (subst (λ (t : ℚ). q +ℚ p' ≤ℚ t) (+ℚ_comm q' p') (mono_l q q' p' k)))
+≤ℚ-add p p' q q' h k = ≤ℚ-trans (p +ℚ q) (p' +ℚ q) (p' +ℚ q') (mono_l p p' q h)
+    (subst (λ (t : ℚ). t ≤ℚ p' +ℚ q') (+ℚ_comm q p') (subst (λ (t : ℚ). q +ℚ p' ≤ℚ t) (+ℚ_comm q' p') (mono_l q q' p' k)))
 
 pub ≤ℚ-mul_nonneg : (p q : ℚ) → int (pos 0) ≤ℚ p → int (pos 0) ≤ℚ q → int (pos 0) ≤ℚ p *ℚ q
 unfolding ◌*ℚ◌ int
-≤ℚ-mul_nonneg = ind {r = ◌≈◌} {β = λ p. (q : ℚ) → int (pos 0) ≤ℚ p → int (pos 0) ≤ℚ q → int (pos 0) ≤ℚ p *ℚ q} (λ p. Π_prop (λ q. Π_prop (λ _. Π_prop (λ _. ≤ℚ-prop (int (pos 0)) (p *ℚ q)))))
-    (λ x. ind {r = ◌≈◌} {β = λ q. int (pos 0) ≤ℚ mk x → int (pos 0) ≤ℚ q → int (pos 0) ≤ℚ mk x *ℚ q} (λ q. Π_prop (λ _. Π_prop (λ _. ≤ℚ-prop (int (pos 0)) (mk x *ℚ q))))
-    (λ y h k. ≤ℚ-from (whole (pos 0)) (x *F y) (record { at_most = nonneg x.numerator y.numerator (pos (x.denominator * y.denominator)) (pos x.denominator) (pos y.denominator) (≤ℚ-to (whole (pos 0)) x h).at_most (≤ℚ-to (whole (pos 0)) y k).at_most })))
+≤ℚ-mul_nonneg = ind {r = ◌≈◌} {β = λ p. (q : ℚ) → int (pos 0) ≤ℚ p → int (pos 0) ≤ℚ q → int (pos 0) ≤ℚ p *ℚ q}
+    (λ p. Π_prop (λ q. Π_prop (λ _. Π_prop (λ _. ≤ℚ-prop (int (pos 0)) (p *ℚ q)))))
+    (λ x. ind {r = ◌≈◌} {β = λ q. int (pos 0) ≤ℚ mk x → int (pos 0) ≤ℚ q → int (pos 0) ≤ℚ mk x *ℚ q}
+    (λ q. Π_prop (λ _. Π_prop (λ _. ≤ℚ-prop (int (pos 0)) (mk x *ℚ q))))
+    (λ y h k. ≤ℚ-from (whole (pos 0)) (x *F y)
+    (record {
+      at_most = nonneg x.numerator y.numerator (pos (x.denominator * y.denominator)) (pos x.denominator) (pos y.denominator)
+          (≤ℚ-to (whole (pos 0)) x h).at_most (≤ℚ-to (whole (pos 0)) y k).at_most;
+    })))
   where
     nonneg : (a b n d e : ℤ) → (pos 0 *ℤ d) ≤ℤ (a *ℤ pos 1) → (pos 0 *ℤ e) ≤ℤ (b *ℤ pos 1) → (pos 0 *ℤ n) ≤ℤ (a *ℤ b *ℤ pos 1)
-    nonneg a b n d e h k = let p : pos 0 ≤ℤ a = omega (arith, ints) in let q : pos 0 ≤ℤ b = omega (arith, ints) in let r = mul-nonneg a b p q in omega (arith, ints)
+    nonneg a b n d e h k = let p : pos 0 ≤ℤ a = omega (arith, ints) in let q : pos 0 ≤ℤ b = omega (arith, ints) in let r = mul-nonneg a b p q in
+        omega (arith, ints)
 
 pub ≤ℚ-square : (p : ℚ) → int (pos 0) ≤ℚ p *ℚ p
 unfolding ◌*ℚ◌ int
@@ -79,7 +94,8 @@ unfolding int
 pub ≤ℚ-one_over : (n : ℕ) → int (pos 0) ≤ℚ one_over n
 unfolding int one_over
 ≤ℚ-one_over zero = ≤ℚ-from (whole (pos 0)) (whole (pos 0)) (≈→≼ (≈-refl (whole (pos 0))))
-≤ℚ-one_over (suc n) = ≤ℚ-from (whole (pos 0)) (record { numerator = pos 1; denominator = suc n; positive = suc_positive n }) (record { at_most = omega (arith, ints) })
+≤ℚ-one_over (suc n) = ≤ℚ-from (whole (pos 0)) (record { numerator = pos 1; denominator = suc n; positive = suc_positive n })
+    (record { at_most = omega (arith, ints) })
 
 -- equal classes have equal cross products
 pub ≡-to : (x y : Fraction) → ◌≡◌ {A = ℚ} (mk x) (mk y) → x ≈ y
@@ -95,7 +111,10 @@ pub ≤ℚ-refl : (p : ℚ) → p ≤ℚ p
 pub ≤ℚ-antisym : (p q : ℚ) → p ≤ℚ q → q ≤ℚ p → p ≡ q
 ≤ℚ-antisym = ind {r = ◌≈◌} {β = λ p. (q : ℚ) → p ≤ℚ q → q ≤ℚ p → p ≡ q} (λ p. Π_prop (λ q. Π_prop (λ _. Π_prop (λ _. ℚ_set p q))))
     (λ x. ind {r = ◌≈◌} {β = λ q. mk x ≤ℚ q → q ≤ℚ mk x → mk x ≡ q} (λ q. Π_prop (λ _. Π_prop (λ _. ℚ_set (mk x) q)))
-    (λ y h k. sound (record { same = le_antisym (x.numerator *ℤ pos y.denominator) (y.numerator *ℤ pos x.denominator) (≤ℚ-to x y h).at_most (≤ℚ-to y x k).at_most })))
+    (λ y h k. sound (record {
+      same = le_antisym (x.numerator *ℤ pos y.denominator) (y.numerator *ℤ pos x.denominator)
+          (≤ℚ-to x y h).at_most (≤ℚ-to y x k).at_most;
+    })))
 
 -- where the test fails, the order is the other way round
 pub ≤ℚ-flip : (p q : ℚ) → leq p q ≡ false → q ≤ℚ p

@@ -20,25 +20,49 @@ pub record Read (atoms : List ℚ) (z : ℚ) : Type 0 where
   pub is : value ring_ℚ atoms text ≡ z
 
 abbrev pub read_sum : {atoms : List ℚ} {a b : ℚ} → Read atoms a → Read atoms b → Read atoms (a +ℚ b)
-read_sum {atoms} {a} {b} x y = record { text = x.text ⊕ y.text; is = ap (λ (z : ℚ). z +ℚ value ring_ℚ atoms y.text) x.is ∙ ap (λ (z : ℚ). a +ℚ z) y.is }
+read_sum {atoms} {a} {b} x y = record {
+  text = x.text ⊕ y.text;
+  is = ap (λ (z : ℚ). z +ℚ value ring_ℚ atoms y.text) x.is
+      ∙ ap (λ (z : ℚ). a +ℚ z) y.is;
+}
 
 abbrev pub read_product : {atoms : List ℚ} {a b : ℚ} → Read atoms a → Read atoms b → Read atoms (a *ℚ b)
-read_product {atoms} {a} {b} x y = record { text = x.text ⊗ y.text; is = ap (λ (z : ℚ). z *ℚ value ring_ℚ atoms y.text) x.is ∙ ap (λ (z : ℚ). a *ℚ z) y.is }
+read_product {atoms} {a} {b} x y = record {
+  text = x.text ⊗ y.text;
+  is = ap (λ (z : ℚ). z *ℚ value ring_ℚ atoms y.text) x.is
+      ∙ ap (λ (z : ℚ). a *ℚ z) y.is;
+}
 
 abbrev pub read_neg : {atoms : List ℚ} {a : ℚ} → Read atoms a → Read atoms (neg_ℚ a)
 read_neg x = record { text = neg x.text; is = ap neg_ℚ x.is }
 
 abbrev pub read_int_sum : {atoms : List ℚ} (a b : ℤ) → Read atoms (int a) → Read atoms (int b) → Read atoms (int (a +ℤ b))
-read_int_sum {atoms} a b x y = record { text = x.text ⊕ y.text; is = ap (λ (z : ℚ). z +ℚ value ring_ℚ atoms y.text) x.is ∙ ap (λ (z : ℚ). int a +ℚ z) y.is ∙ sym (int-add a b) }
+read_int_sum {atoms} a b x y = record {
+  text = x.text ⊕ y.text;
+  is = ap (λ (z : ℚ). z +ℚ value ring_ℚ atoms y.text) x.is
+      ∙ ap (λ (z : ℚ). int a +ℚ z) y.is ∙ sym (int-add a b);
+}
 
 abbrev pub read_int_product : {atoms : List ℚ} (a b : ℤ) → Read atoms (int a) → Read atoms (int b) → Read atoms (int (a *ℤ b))
-read_int_product {atoms} a b x y = record { text = x.text ⊗ y.text; is = ap (λ (z : ℚ). z *ℚ value ring_ℚ atoms y.text) x.is ∙ ap (λ (z : ℚ). int a *ℚ z) y.is ∙ sym (int-mul a b) }
+read_int_product {atoms} a b x y = record {
+  text = x.text ⊗ y.text;
+  is = ap (λ (z : ℚ). z *ℚ value ring_ℚ atoms y.text) x.is
+      ∙ ap (λ (z : ℚ). int a *ℚ z) y.is ∙ sym (int-mul a b);
+}
 
 abbrev pub read_pos_sum : {atoms : List ℚ} (m n : ℕ) → Read atoms (int (pos m)) → Read atoms (int (pos n)) → Read atoms (int (pos (m + n)))
-read_pos_sum {atoms} m n x y = record { text = x.text ⊕ y.text; is = ap (λ (z : ℚ). z +ℚ value ring_ℚ atoms y.text) x.is ∙ ap (λ (z : ℚ). int (pos m) +ℚ z) y.is ∙ sym (int-add (pos m) (pos n)) }
+read_pos_sum {atoms} m n x y = record {
+  text = x.text ⊕ y.text;
+  is = ap (λ (z : ℚ). z +ℚ value ring_ℚ atoms y.text) x.is
+      ∙ ap (λ (z : ℚ). int (pos m) +ℚ z) y.is ∙ sym (int-add (pos m) (pos n));
+}
 
 abbrev pub read_pos_product : {atoms : List ℚ} (m n : ℕ) → Read atoms (int (pos m)) → Read atoms (int (pos n)) → Read atoms (int (pos (m * n)))
-read_pos_product {atoms} m n x y = record { text = x.text ⊗ y.text; is = ap (λ (z : ℚ). z *ℚ value ring_ℚ atoms y.text) x.is ∙ ap (λ (z : ℚ). int (pos m) *ℚ z) y.is ∙ sym (int-mul (pos m) (pos n)) }
+read_pos_product {atoms} m n x y = record {
+  text = x.text ⊗ y.text;
+  is = ap (λ (z : ℚ). z *ℚ value ring_ℚ atoms y.text) x.is
+      ∙ ap (λ (z : ℚ). int (pos m) *ℚ z) y.is ∙ sym (int-mul (pos m) (pos n));
+}
 
 abbrev pub read_lit : {atoms : List ℚ} (n : ℕ) → eqb n n ≡ true → Read atoms (int (pos n))
 read_lit n h = record { text = con (pos n); is = refl }
@@ -75,9 +99,12 @@ pub by_reading : {atoms : List ℚ} {a b : ℚ} (x : Read atoms a) (y : Read ato
 by_reading {atoms} x y e = sym x.is ∙ ring_over ring_ℚ atoms x.text y.text e ∙ y.is
 
 -- a ≡ b, where a - b is a combination of given equations
-pub by_given : {atoms : List ℚ} {a b : ℚ} (x : Read atoms a) (y : Read atoms b) (g : Given atoms) → all_zero (norm (x.text ⊖ y.text ⊖ R.combined ring_ℚ atoms (back g))) ≡ true → a ≡ b
+pub by_given : {atoms : List ℚ} {a b : ℚ} (x : Read atoms a) (y : Read atoms b) (g : Given atoms) →
+    all_zero (norm (x.text ⊖ y.text ⊖ R.combined ring_ℚ atoms (back g))) ≡ true → a ≡ b
 by_given {atoms} x y g e = sym x.is ∙ R.ring_given ring_ℚ atoms x.text y.text (back g) e ∙ y.is
 
 -- a ≤ b, where b - a is a sum of squares and a combination of given equations
-pub by_squares : {atoms : List ℚ} {a b : ℚ} (x : Read atoms a) (y : Read atoms b) (c : Squares atoms) (g : Given atoms) → all_zero (norm (y.text ⊖ x.text ⊖ R.total ring_ℚ ordered_ℚ atoms (back_squares c) ⊖ R.combined ring_ℚ atoms (back g))) ≡ true → a ≤ℚ b
-by_squares {atoms} {a} {b} x y c g e = subst (λ (z : ℚ). z ≤ℚ b) x.is (subst (λ (z : ℚ). value ring_ℚ atoms x.text ≤ℚ z) y.is (R.le_given ring_ℚ ordered_ℚ atoms x.text y.text (back_squares c) (back g) e))
+pub by_squares : {atoms : List ℚ} {a b : ℚ} (x : Read atoms a) (y : Read atoms b) (c : Squares atoms) (g : Given atoms) →
+    all_zero (norm (y.text ⊖ x.text ⊖ R.total ring_ℚ ordered_ℚ atoms (back_squares c) ⊖ R.combined ring_ℚ atoms (back g))) ≡ true → a ≤ℚ b
+by_squares {atoms} {a} {b} x y c g e =
+    subst (λ (z : ℚ). z ≤ℚ b) x.is (subst (λ (z : ℚ). value ring_ℚ atoms x.text ≤ℚ z) y.is (R.le_given ring_ℚ ordered_ℚ atoms x.text y.text (back_squares c) (back g) e))

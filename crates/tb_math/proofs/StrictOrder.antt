@@ -57,13 +57,20 @@ pub <-≤-trans : (p q r : ℚ) → p <ℚ q → q ≤ℚ r → p <ℚ r
 
 -- a summand cancels
 pub cancel_add : (p q r : ℚ) → p +ℚ r ≤ℚ q +ℚ r → p ≤ℚ q
-cancel_add p q r h = subst (λ (t : ℚ). t ≤ℚ q) (without p) (subst (λ (t : ℚ). p +ℚ r +ℚ neg_ℚ r ≤ℚ t) (without q) (≤ℚ-add (p +ℚ r) (q +ℚ r) (neg_ℚ r) (neg_ℚ r) h (≤ℚ-refl (neg_ℚ r))))
+cancel_add p q r h = subst (λ (t : ℚ). t ≤ℚ q) (without p)
+    (subst (λ (t : ℚ). p +ℚ r +ℚ neg_ℚ r ≤ℚ t) (without q) (≤ℚ-add (p +ℚ r) (q +ℚ r) (neg_ℚ r) (neg_ℚ r) h (≤ℚ-refl (neg_ℚ r))))
   where
     without : (s : ℚ) → s +ℚ r +ℚ neg_ℚ r ≡ s
     without s = by_reading {atoms = s ∷ r ∷ []} (search reading) (search reading) refl
 
 pub <ℚ-add : (p p' q q' : ℚ) → p <ℚ p' → q ≤ℚ q' → p +ℚ q <ℚ p' +ℚ q'
-<ℚ-add p p' q q' h k = record { not_above = λ l. h.not_above (cancel_add p' p q (≤ℚ-trans (p' +ℚ q) (p' +ℚ q') (p +ℚ q) (≤ℚ-add p' p' q q' (≤ℚ-refl p') k) l)) }
+<ℚ-add p p' q q' h k = record {
+  not_above = λ l. h.not_above (cancel_add p' p q (≤ℚ-trans (p' +ℚ q) (p' +ℚ q') (p +ℚ q)
+      (≤ℚ-add p' p' q q' (≤ℚ-refl p') k) l));
+}
 
 pub <ℚ-mul : (n : ℕ) (p q : ℚ) → 0 < n → p <ℚ q → int (pos n) *ℚ p <ℚ int (pos n) *ℚ q
 <ℚ-mul n p q h k = record { not_above = λ l. k.not_above (cancel_le_ℚ n q p h l) }
+
+pub <ℚ-irreflexive : (p : ℚ) → p <ℚ p → ⊥
+<ℚ-irreflexive p h = h.not_above (≤ℚ-refl p)

@@ -37,7 +37,8 @@ quotient_up-rounds (negsuc a) n h = negative (suc a / n) (div-mul-le_self (suc a
 
 -- rounding keeps the order of fractions
 pub rounds_up-le : (x y : Fraction) (c d : ℤ) → x ≼ y → RoundsUp x.numerator x.denominator c → RoundsUp y.numerator y.denominator d → c ≤ℤ d
-rounds_up-le x y c d h k l = finish (cancel_le y.denominator (c *ℤ pos x.denominator +ℤ pos 1) (d *ℤ pos x.denominator +ℤ pos x.denominator) y.positive scaled)
+rounds_up-le x y c d h k l = finish (cancel_le y.denominator (c *ℤ pos x.denominator +ℤ pos 1)
+    (d *ℤ pos x.denominator +ℤ pos x.denominator) y.positive scaled)
   where
     scaled : (pos y.denominator *ℤ (c *ℤ pos x.denominator +ℤ pos 1)) ≤ℤ (pos y.denominator *ℤ (d *ℤ pos x.denominator +ℤ pos x.denominator))
     scaled = let p : (c *ℤ pos x.denominator +ℤ pos 1) ≤ℤ (x.numerator +ℤ pos x.denominator) = omega (arith, ints, k.below) in
@@ -62,10 +63,13 @@ rounds_up-le x y c d h k l = finish (cancel_le y.denominator (c *ℤ pos x.denom
             omega (arith, ints, q, s, e1, e2, e3)
 
 pub quotient_up-le : (x y : Fraction) → x ≼ y → quotient_up x.numerator x.denominator ≤ℤ quotient_up y.numerator y.denominator
-quotient_up-le x y h = rounds_up-le x y (quotient_up x.numerator x.denominator) (quotient_up y.numerator y.denominator) h (quotient_up-rounds x.numerator x.denominator x.positive) (quotient_up-rounds y.numerator y.denominator y.positive)
+quotient_up-le x y h = rounds_up-le x y (quotient_up x.numerator x.denominator)
+    (quotient_up y.numerator y.denominator) h (quotient_up-rounds x.numerator x.denominator x.positive)
+    (quotient_up-rounds y.numerator y.denominator y.positive)
 
 pub quotient_up-cong : (x y : Fraction) → x ≈ y → quotient_up x.numerator x.denominator ≡ quotient_up y.numerator y.denominator
-quotient_up-cong x y e = le_antisym (quotient_up x.numerator x.denominator) (quotient_up y.numerator y.denominator) (quotient_up-le x y (≈→≼ e)) (quotient_up-le y x (≈→≼ (≈-sym e)))
+quotient_up-cong x y e = le_antisym (quotient_up x.numerator x.denominator) (quotient_up y.numerator y.denominator) (quotient_up-le x y (≈→≼ e))
+    (quotient_up-le y x (≈→≼ (≈-sym e)))
 
 -- q rounded up to a whole number
 unfoldable pub ceiling : ℚ → ℤ

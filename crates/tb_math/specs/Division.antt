@@ -26,11 +26,13 @@ upside_down-cong (pos (suc j)) (pos (suc l)) n m h k e = record { same = omega (
 upside_down-cong (pos (suc j)) (negsuc l) n m h k e = absurd (omega (arith, ints, h, k, e))
 upside_down-cong (negsuc j) (pos zero) n m h k e = absurd (omega (arith, ints, k, e))
 upside_down-cong (negsuc j) (pos (suc l)) n m h k e = absurd (omega (arith, ints, h, k, e))
-upside_down-cong (negsuc j) (negsuc l) n m h k e = let a = neg-mul (pos n) (pos (suc l)) in let b = neg-mul (pos m) (pos (suc j)) in let c = neg-mul (pos (suc j)) (pos m) in let d = neg-mul (pos (suc l)) (pos n) in
+upside_down-cong (negsuc j) (negsuc l) n m h k e = let a = neg-mul (pos n) (pos (suc l)) in let b = neg-mul (pos m) (pos (suc j)) in
+    let c = neg-mul (pos (suc j)) (pos m) in let d = neg-mul (pos (suc l)) (pos n) in
     record { same = omega (arith, ints, e, a, b, c, d) }
 
 unfoldable pub inverse : ℚ → ℚ
-inverse q = lift ℚ_set (λ x. mk (upside_down x.numerator x.denominator)) (λ x y e. sound (upside_down-cong x.numerator y.numerator x.denominator y.denominator x.positive y.positive e.same)) q
+inverse q = lift ℚ_set (λ x. mk (upside_down x.numerator x.denominator))
+    (λ x y e. sound (upside_down-cong x.numerator y.numerator x.denominator y.denominator x.positive y.positive e.same)) q
 
 abbrev pub ◌/ℚ◌ : ℚ → ℚ → ℚ
 p /ℚ q = p *ℚ inverse q

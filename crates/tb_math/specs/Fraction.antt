@@ -33,10 +33,18 @@ abbrev pub whole : ℤ → Fraction
 whole z = record { numerator = z; denominator = 1; positive = suc_positive 0 }
 
 abbrev pub ◌+F◌ : Fraction → Fraction → Fraction
-x +F y = record { numerator = x.numerator *ℤ pos y.denominator +ℤ y.numerator *ℤ pos x.denominator; denominator = x.denominator * y.denominator; positive = mul_positive x.denominator y.denominator x.positive y.positive }
+x +F y = record {
+  numerator = x.numerator *ℤ pos y.denominator +ℤ y.numerator *ℤ pos x.denominator;
+  denominator = x.denominator * y.denominator;
+  positive = mul_positive x.denominator y.denominator x.positive y.positive;
+}
 
 abbrev pub ◌*F◌ : Fraction → Fraction → Fraction
-x *F y = record { numerator = x.numerator *ℤ y.numerator; denominator = x.denominator * y.denominator; positive = mul_positive x.denominator y.denominator x.positive y.positive }
+x *F y = record {
+  numerator = x.numerator *ℤ y.numerator;
+  denominator = x.denominator * y.denominator;
+  positive = mul_positive x.denominator y.denominator x.positive y.positive;
+}
 
 abbrev pub neg_F : Fraction → Fraction
 neg_F x = record { numerator = neg_ℤ x.numerator; denominator = x.denominator; positive = x.positive }

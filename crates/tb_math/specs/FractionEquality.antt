@@ -18,7 +18,8 @@ pub ≈-sym : {x y : Fraction} → x ≈ y → y ≈ x
 pub ≈-trans : {x y z : Fraction} → x ≈ y → y ≈ z → x ≈ z
 ≈-trans {x} {y} {z} e f = record {
   same = cancel_eq y.denominator (x.numerator *ℤ pos z.denominator) (z.numerator *ℤ pos x.denominator) y.positive
-      (turn (pos y.denominator) x.numerator (pos z.denominator) ∙ ap (λ (t : ℤ). pos z.denominator *ℤ t) e.same ∙ turn (pos z.denominator) y.numerator (pos x.denominator)
+      (turn (pos y.denominator) x.numerator (pos z.denominator) ∙ ap (λ (t : ℤ). pos z.denominator *ℤ t) e.same
+      ∙ turn (pos z.denominator) y.numerator (pos x.denominator)
       ∙ ap (λ (t : ℤ). pos x.denominator *ℤ t) f.same ∙ turn (pos x.denominator) z.numerator (pos y.denominator));
 }
 
@@ -26,16 +27,26 @@ pub ≈→≼ : {x y : Fraction} → x ≈ y → x ≼ y
 ≈→≼ e = record { at_most = omega (arith, ints, e.same) }
 
 pub ≼-trans : {x y z : Fraction} → x ≼ y → y ≼ z → x ≼ z
-≼-trans {x} {y} {z} h k = record { at_most = cancel_le y.denominator (x.numerator *ℤ pos z.denominator) (z.numerator *ℤ pos x.denominator) y.positive last }
+≼-trans {x} {y} {z} h k = record {
+  at_most = cancel_le y.denominator (x.numerator *ℤ pos z.denominator)
+      (z.numerator *ℤ pos x.denominator) y.positive last;
+}
   where
     last : (pos y.denominator *ℤ (x.numerator *ℤ pos z.denominator)) ≤ℤ (pos y.denominator *ℤ (z.numerator *ℤ pos x.denominator))
-    last = let p = mul_le (pos z.denominator) (x.numerator *ℤ pos y.denominator) (y.numerator *ℤ pos x.denominator) (pos-nonneg z.denominator) h.at_most in
-        let q = mul_le (pos x.denominator) (y.numerator *ℤ pos z.denominator) (z.numerator *ℤ pos y.denominator) (pos-nonneg x.denominator) k.at_most in
-        let e = turn (pos y.denominator) x.numerator (pos z.denominator) in let f = turn (pos z.denominator) y.numerator (pos x.denominator) in let g = turn (pos x.denominator) z.numerator (pos y.denominator) in
+    last = let p = mul_le (pos z.denominator) (x.numerator *ℤ pos y.denominator) (y.numerator *ℤ pos x.denominator)
+        (pos-nonneg z.denominator) h.at_most in
+        let q = mul_le (pos x.denominator) (y.numerator *ℤ pos z.denominator) (z.numerator *ℤ pos y.denominator)
+        (pos-nonneg x.denominator) k.at_most in
+        let e = turn (pos y.denominator) x.numerator (pos z.denominator) in let f = turn (pos z.denominator) y.numerator (pos x.denominator) in
+        let g = turn (pos x.denominator) z.numerator (pos y.denominator) in
         omega (arith, ints, p, q, e, f, g)
 
 pub +F-comm : (x y : Fraction) → x +F y ≈ y +F x
-+F-comm x y = record { same = ap (λ (t : ℤ). t *ℤ (pos y.denominator *ℤ pos x.denominator)) (flip (x.numerator *ℤ pos y.denominator) (y.numerator *ℤ pos x.denominator)) ∙ ap (λ (t : ℤ). (y.numerator *ℤ pos x.denominator +ℤ x.numerator *ℤ pos y.denominator) *ℤ t) (*ℤ_comm (pos y.denominator) (pos x.denominator)) }
++F-comm x y = record {
+  same = ap (λ (t : ℤ). t *ℤ (pos y.denominator *ℤ pos x.denominator))
+      (flip (x.numerator *ℤ pos y.denominator) (y.numerator *ℤ pos x.denominator))
+      ∙ ap (λ (t : ℤ). (y.numerator *ℤ pos x.denominator +ℤ x.numerator *ℤ pos y.denominator) *ℤ t) (*ℤ_comm (pos y.denominator) (pos x.denominator));
+}
   where
     flip : (a b : ℤ) → a +ℤ b ≡ b +ℤ a
     flip a b = omega (arith, ints)
@@ -43,8 +54,12 @@ pub +F-comm : (x y : Fraction) → x +F y ≈ y +F x
 pub +F-left : (x x' y : Fraction) → x ≈ x' → x +F y ≈ x' +F y
 +F-left x x' y e = record {
   same = dist_r (x.numerator *ℤ pos y.denominator) (y.numerator *ℤ pos x.denominator) (pos x'.denominator *ℤ pos y.denominator)
-      ∙ ap (λ (t : ℤ). t +ℤ y.numerator *ℤ pos x.denominator *ℤ (pos x'.denominator *ℤ pos y.denominator)) (medial x.numerator (pos y.denominator) (pos x'.denominator) (pos y.denominator) ∙ ap (λ (t : ℤ). t *ℤ (pos y.denominator *ℤ pos y.denominator)) e.same ∙ medial x'.numerator (pos x.denominator) (pos y.denominator) (pos y.denominator))
-      ∙ ap (λ (t : ℤ). x'.numerator *ℤ pos y.denominator *ℤ (pos x.denominator *ℤ pos y.denominator) +ℤ t) (medial y.numerator (pos x.denominator) (pos x'.denominator) (pos y.denominator))
+      ∙ ap (λ (t : ℤ). t +ℤ y.numerator *ℤ pos x.denominator *ℤ (pos x'.denominator *ℤ pos y.denominator))
+      (medial x.numerator (pos y.denominator) (pos x'.denominator) (pos y.denominator)
+      ∙ ap (λ (t : ℤ). t *ℤ (pos y.denominator *ℤ pos y.denominator)) e.same
+      ∙ medial x'.numerator (pos x.denominator) (pos y.denominator) (pos y.denominator))
+      ∙ ap (λ (t : ℤ). x'.numerator *ℤ pos y.denominator *ℤ (pos x.denominator *ℤ pos y.denominator) +ℤ t)
+      (medial y.numerator (pos x.denominator) (pos x'.denominator) (pos y.denominator))
       ∙ sym (dist_r (x'.numerator *ℤ pos y.denominator) (y.numerator *ℤ pos x'.denominator) (pos x.denominator *ℤ pos y.denominator));
 }
 
@@ -52,10 +67,16 @@ pub +F-right : (x y y' : Fraction) → y ≈ y' → x +F y ≈ x +F y'
 +F-right x y y' e = ≈-trans (+F-comm x y) (≈-trans (+F-left y y' x e) (+F-comm y' x))
 
 pub *F-comm : (x y : Fraction) → x *F y ≈ y *F x
-*F-comm x y = record { same = ap (λ (t : ℤ). t *ℤ (pos y.denominator *ℤ pos x.denominator)) (*ℤ_comm x.numerator y.numerator) ∙ ap (λ (t : ℤ). y.numerator *ℤ x.numerator *ℤ t) (*ℤ_comm (pos y.denominator) (pos x.denominator)) }
+*F-comm x y = record {
+  same = ap (λ (t : ℤ). t *ℤ (pos y.denominator *ℤ pos x.denominator)) (*ℤ_comm x.numerator y.numerator)
+      ∙ ap (λ (t : ℤ). y.numerator *ℤ x.numerator *ℤ t) (*ℤ_comm (pos y.denominator) (pos x.denominator));
+}
 
 pub *F-left : (x x' y : Fraction) → x ≈ x' → x *F y ≈ x' *F y
-*F-left x x' y e = record { same = medial x.numerator y.numerator (pos x'.denominator) (pos y.denominator) ∙ ap (λ (t : ℤ). t *ℤ (y.numerator *ℤ pos y.denominator)) e.same ∙ medial x'.numerator (pos x.denominator) y.numerator (pos y.denominator) }
+*F-left x x' y e = record {
+  same = medial x.numerator y.numerator (pos x'.denominator) (pos y.denominator)
+      ∙ ap (λ (t : ℤ). t *ℤ (y.numerator *ℤ pos y.denominator)) e.same ∙ medial x'.numerator (pos x.denominator) y.numerator (pos y.denominator);
+}
 
 pub *F-right : (x y y' : Fraction) → y ≈ y' → x *F y ≈ x *F y'
 *F-right x y y' e = ≈-trans (*F-comm x y) (≈-trans (*F-left y y' x e) (*F-comm y' x))
@@ -71,8 +92,12 @@ same_truth false false f g = refl
 
 pub leF-left : (x x' y : Fraction) → x ≈ x' → leF x y ≡ leF x' y
 unfolding leF
-leF-left x x' y e = same_truth (leF x y) (leF x' y) (λ t. (≼-trans {x = x'} {y = x} {z = y} (≈→≼ (≈-sym e)) (record { at_most = record { le = t } })).at_most.le) (λ t. (≼-trans {x = x} {y = x'} {z = y} (≈→≼ e) (record { at_most = record { le = t } })).at_most.le)
+leF-left x x' y e = same_truth (leF x y) (leF x' y)
+    (λ t. (≼-trans {x = x'} {y = x} {z = y} (≈→≼ (≈-sym e)) (record { at_most = record { le = t } })).at_most.le)
+    (λ t. (≼-trans {x = x} {y = x'} {z = y} (≈→≼ e) (record { at_most = record { le = t } })).at_most.le)
 
 pub leF-right : (x y y' : Fraction) → y ≈ y' → leF x y ≡ leF x y'
 unfolding leF
-leF-right x y y' e = same_truth (leF x y) (leF x y') (λ t. (≼-trans {x = x} {y = y} {z = y'} (record { at_most = record { le = t } }) (≈→≼ e)).at_most.le) (λ t. (≼-trans {x = x} {y = y'} {z = y} (record { at_most = record { le = t } }) (≈→≼ (≈-sym e))).at_most.le)
+leF-right x y y' e = same_truth (leF x y) (leF x y')
+    (λ t. (≼-trans {x = x} {y = y} {z = y'} (record { at_most = record { le = t } }) (≈→≼ e)).at_most.le)
+    (λ t. (≼-trans {x = x} {y = y'} {z = y} (record { at_most = record { le = t } }) (≈→≼ (≈-sym e))).at_most.le)

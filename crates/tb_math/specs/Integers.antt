@@ -15,10 +15,23 @@ pub dist_r : (a b c : ℤ) → (a +ℤ b) *ℤ c ≡ a *ℤ c +ℤ b *ℤ c
 dist_r a b c = omega (arith, ints, ap (λ (n : ℕ). n * up c) (sum_is_lem a b), ap (λ (n : ℕ). n * down c) (sum_is_lem a b))
 
 pub mul_assoc : (a b c : ℤ) → (a *ℤ b) *ℤ c ≡ a *ℤ (b *ℤ c)
-mul_assoc a b c = omega (arith, ints, ap (λ (n : ℕ). n * up c) (product_is a b).0, ap (λ (n : ℕ). n * down c) (product_is a b).0, ap (λ (n : ℕ). n * up c) (product_is a b).1, ap (λ (n : ℕ). n * down c) (product_is a b).1, ap (λ (n : ℕ). up a * n) (product_is b c).0, ap (λ (n : ℕ). down a * n) (product_is b c).0, ap (λ (n : ℕ). up a * n) (product_is b c).1, ap (λ (n : ℕ). down a * n) (product_is b c).1)
+mul_assoc a b c = let p = product_is a b in let q = product_is b c in
+    omega (
+      arith,
+      ints,
+      ap (λ (n : ℕ). n * up c) p.0,
+      ap (λ (n : ℕ). n * down c) p.0,
+      ap (λ (n : ℕ). n * up c) p.1,
+      ap (λ (n : ℕ). n * down c) p.1,
+      ap (λ (n : ℕ). up a * n) q.0,
+      ap (λ (n : ℕ). down a * n) q.0,
+      ap (λ (n : ℕ). up a * n) q.1,
+      ap (λ (n : ℕ). down a * n) q.1,
+    )
 
 pub neg-mul : (a b : ℤ) → neg_ℤ a *ℤ b ≡ neg_ℤ (a *ℤ b)
-neg-mul a b = omega (arith, ints, ap (λ (n : ℕ). n * up b) (neg_is a).0, ap (λ (n : ℕ). n * down b) (neg_is a).0, ap (λ (n : ℕ). n * up b) (neg_is a).1, ap (λ (n : ℕ). n * down b) (neg_is a).1)
+neg-mul a b = let p = neg_is a in
+    omega (arith, ints, ap (λ (n : ℕ). n * up b) p.0, ap (λ (n : ℕ). n * down b) p.0, ap (λ (n : ℕ). n * up b) p.1, ap (λ (n : ℕ). n * down b) p.1)
 
 pub one-mul : (a : ℤ) → pos 1 *ℤ a ≡ a
 one-mul a = omega (arith, ints)
@@ -42,7 +55,8 @@ turn a b c = *ℤ_comm a (b *ℤ c) ∙ ap (λ (z : ℤ). z *ℤ a) (*ℤ_comm b
 
 -- the inner factors of four change places
 pub medial : (a b c d : ℤ) → (a *ℤ b) *ℤ (c *ℤ d) ≡ (a *ℤ c) *ℤ (b *ℤ d)
-medial a b c d = mul_assoc a b (c *ℤ d) ∙ ap (λ (z : ℤ). a *ℤ z) (sym (mul_assoc b c d) ∙ ap (λ (z : ℤ). z *ℤ d) (*ℤ_comm b c) ∙ mul_assoc c b d) ∙ sym (mul_assoc a c (b *ℤ d))
+medial a b c d = mul_assoc a b (c *ℤ d) ∙ ap (λ (z : ℤ). a *ℤ z) (sym (mul_assoc b c d) ∙ ap (λ (z : ℤ). z *ℤ d) (*ℤ_comm b c) ∙ mul_assoc c b d)
+    ∙ sym (mul_assoc a c (b *ℤ d))
 
 pub pos-nonneg : (n : ℕ) → pos 0 ≤ℤ pos n
 pos-nonneg n = omega (arith, ints)

@@ -21,8 +21,11 @@ pub ℚ_set : IsSet ℚ
 ℚ_set = Quot-set
 
 -- a function of two fractions that respects equality is one of two rationals
-abbrev pub lift2 : {B : Type 0} → IsSet B → (f : Fraction → Fraction → B) → ((x x' y : Fraction) → x ≈ x' → f x y ≡ f x' y) → ((x y y' : Fraction) → y ≈ y' → f x y ≡ f x y') → ℚ → ℚ → B
-lift2 {B} bset f l r q q' = lift bset (λ x. lift bset (f x) (r x) q') (λ x x' e. ind {r = ◌≈◌} {β = λ s. lift bset (f x) (r x) s ≡ lift bset (f x') (r x') s} (λ s. bset (lift bset (f x) (r x) s) (lift bset (f x') (r x') s)) (λ y. l x x' y e) q') q
+abbrev pub lift2 : {B : Type 0} → IsSet B → (f : Fraction → Fraction → B) → ((x x' y : Fraction) → x ≈ x' → f x y ≡ f x' y) →
+    ((x y y' : Fraction) → y ≈ y' → f x y ≡ f x y') → ℚ → ℚ → B
+lift2 {B} bset f l r q q' = lift bset (λ x. lift bset (f x) (r x) q')
+    (λ x x' e. ind {r = ◌≈◌} {β = λ s. lift bset (f x) (r x) s ≡ lift bset (f x') (r x') s}
+    (λ s. bset (lift bset (f x) (r x) s) (lift bset (f x') (r x') s)) (λ y. l x x' y e) q') q
 
 unfoldable pub ◌+ℚ◌ : ℚ → ℚ → ℚ
 p +ℚ q = lift2 ℚ_set (λ x y. mk (x +F y)) (λ x x' y e. sound (+F-left x x' y e)) (λ x y y' e. sound (+F-right x y y' e)) p q

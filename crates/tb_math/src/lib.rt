@@ -1,11 +1,18 @@
-//! The mathematics that the calculator's definitions and proofs stand on: rational numbers and sums over ranges as definitions, and tactics
-//! for identities and inequalities between polynomials. It has no program: each function here is a law, whose contract is the fact.
+//! The mathematics that the calculator's definitions and proofs stand on. It has no program: each function here is a law, whose contract is the fact.
+//!
+//! Contracts cite `specs/`: `Rational` (the field ℚ, its order, `int`, `one_over`, `ratio`), `Division` (`inverse`, `◌/ℚ◌`),
+//! `Sums` (`sum_to` in any addition, `total` in ℚ, `total_ℤ`, `total_ℕ`) and `Ceiling` (`ceiling`, `RoundsUp`, `RoundsTerms`).
+//!
+//! Proofs cite `proofs/`: `ReadRationals` and `ReadIntegers` prove identities and inequalities between polynomials (`by_reading`, `by_given`,
+//! `by_squares`); `RationalLaws`, `RationalOrder`, `StrictOrder`, `RationalProducts`, `DivisionLaws`, `Ratios` and `CeilingLaws` have the laws by
+//! name; `SumLaws` and `SumOrder` those of sums in any addition, `RationalSums` the same in ℚ and ℤ, `SumsOfCeilings` the rounded ones;
+//! `LineLaws`, `QuadraticForms`, `CutForms` and `WeakDuality` the algebra of energies and flows over plain variables.
 #![tactic(auto)]
 
-ghost use Rattle.std.specs.Prelude.{◌≡◌, ◌↔◌, ◌⊎◌, ℕ, ◌<◌, ℤ, pos, ◌+ℤ◌, ◌*ℤ◌, ◌≤ℤ◌};
+ghost use Rattle.std.specs.Prelude.{◌≡◌, ◌↔◌, ◌⊎◌, ℕ, ◌<◌, ◌*◌, ℤ, pos, ◌+ℤ◌, ◌*ℤ◌, ◌≤ℤ◌};
 ghost use Rattle.tb_math.specs.Ceiling.{RoundsUp, ceiling};
 ghost use Rattle.tb_math.specs.Division.{inverse, ◌/ℚ◌};
-ghost use Rattle.tb_math.specs.Rational.{ℚ, int, one_over, ratio, ◌+ℚ◌, ◌*ℚ◌, neg_ℚ, ◌-ℚ◌, ◌≤ℚ◌, ◌<ℚ◌};
+ghost use Rattle.tb_math.specs.Rational.{ℚ, int, one_over, ratio, ◌+ℚ◌, ◌*ℚ◌, ◌-ℚ◌, ◌≤ℚ◌, ◌<ℚ◌};
 ghost use Rattle.tb_math.specs.Sums.{total, total_ℤ};
 
 /// The rational numbers are a commutative ring, and each natural number but 0 has its inverse there.
@@ -66,4 +73,11 @@ pub fn quotients_round_up()
 pub fn sums_of_ceilings_are_near()
     ensures above { (n : ℕ) (f : ℕ → ℚ) → total n f ≤ℚ int (total_ℤ n (λ i. ceiling (f i))) }
     ensures below { (n : ℕ) (f : ℕ → ℚ) → 0 < n → int (total_ℤ n (λ i. ceiling (f i))) <ℚ total n f +ℚ int (pos n) }
+{}
+
+/// Quotients are ordered and equal as their cross products are, and multiply part by part.
+pub fn quotients_compare()
+    ensures order { (z w : ℤ) (n m : ℕ) → 0 < n → 0 < m → ratio z n ≤ℚ ratio w m ↔ (z *ℤ pos m) ≤ℤ (w *ℤ pos n) }
+    ensures equality { (z w : ℤ) (n m : ℕ) → 0 < n → 0 < m → ratio z n ≡ ratio w m ↔ z *ℤ pos m ≡ w *ℤ pos n }
+    ensures products { (z w : ℤ) (n m : ℕ) → ratio z n *ℚ ratio w m ≡ ratio (z *ℤ w) (n * m) }
 {}

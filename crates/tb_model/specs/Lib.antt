@@ -3,3 +3,4 @@ pub mod Refinement
 pub mod Energy
 pub mod Soundness
 pub mod Values
+pub mod Positive

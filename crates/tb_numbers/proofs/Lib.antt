@@ -1,4 +1,5 @@
 pub mod Digits
+pub mod FixedReadBack
 pub mod Divisions
 pub mod Padded
 pub mod Powers

@@ -30,8 +30,8 @@ first false b h = cc h
 no_minus : (c : ℕ) → is_ascii_digit c ≡ true → (c == 45) ≡ false
 no_minus c h = grind (arith, nat_tests)
 
-unsigned_start : (ds : List ℕ) → is_number ds ≡ true → starts_with_minus ds ≡ false
-unsigned_start [] h = cc h
+pub unsigned_start : (ds : List ℕ) → is_number ds ≡ true → starts_with_minus ds ≡ false
+unsigned_start [] h = refl
 unsigned_start (c ∷ cs) h = no_minus c (first (is_ascii_digit c) (all_ascii_digits cs) h)
 
 unsigned_reading : (ds : List ℕ) (m : ℕ) → Writes ds m → whole_reading ds ≡ Some (pos m)
@@ -42,7 +42,7 @@ minus_reading : (ds : List ℕ) (m : ℕ) → Writes ds m → whole_reading (45 
 unfolding whole_reading
 minus_reading ds m w = rw (reading_of ds m w) refl
 
-number_of : (ds : List ℕ) → 0 < length ds → all_ascii_digits ds ≡ true → is_number ds ≡ true
+pub number_of : (ds : List ℕ) → 0 < length ds → all_ascii_digits ds ≡ true → is_number ds ≡ true
 number_of [] some h = absurd (omega arith)
 number_of (c ∷ cs) some h = h
 

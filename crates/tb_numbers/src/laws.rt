@@ -1,7 +1,7 @@
 // Laws of rounded quotients, and of texts that read as what they were written from.
-ghost use Rattle.std.specs.Prelude.{◌≡◌, ◌^◌, ◌<◌, ℤ, pos, ◌*ℤ◌, ◌≤ℤ◌, ◌<ℤ◌, unsigned_abs, Some};
+ghost use Rattle.std.specs.Prelude.{◌≡◌, ◌^◌, ◌<◌, ℕ, ℤ, pos, ◌*ℤ◌, ◌≤ℤ◌, ◌<ℤ◌, unsigned_abs, Some};
 ghost use Rattle.tb_numbers.specs.Quotients.{IsCeiling, IsFloor, IsRounded, Side, ceiling, floor, rounded};
-ghost use Rattle.tb_numbers.specs.Reading.{whole_reading};
+ghost use Rattle.tb_numbers.specs.Reading.{signed_reading, whole_reading};
 ghost use Rattle.tb_numbers.specs.Texts.{fixed_text};
 
 /// The floor of n / d times d is at most n, by less than d. It is the greatest whole number whose
@@ -31,4 +31,9 @@ pub fn rounding_laws()
 /// The text of a whole number of at most 38 digits reads as that number.
 pub fn whole_reads_back()
     ensures { (z : ℤ) → unsigned_abs z < 10 ^ 38 → whole_reading (fixed_text 0 z) ≡ Some z }
+{}
+
+/// The text of a number reads as that number, in the same places.
+pub fn fixed_reads_back()
+    ensures { (places : ℕ) (z : ℤ) → unsigned_abs z < 10 ^ 64 → signed_reading places (fixed_text places z) ≡ Some z }
 {}

@@ -12,7 +12,7 @@ mod sum;
 mod tests;
 mod text;
 
-pub use laws::{ceiling_laws, floor_laws, rounding_laws, whole_reads_back};
+pub use laws::{ceiling_laws, fixed_reads_back, floor_laws, rounding_laws, whole_reads_back};
 pub use parse::{NumberFault, parse_decimal, parse_signed, parse_whole};
 pub use rounding::{Down, Rounding, Up};
 pub use sum::{PastLimit, Sum};

@@ -14,9 +14,10 @@ pub enum NumberFault {
     OutOfRange,
 }
 
-// A decimal that isn't below this is outside all limits.
-const CAP: u64 = 10_000_000_000_000_000;
+// Above every limit that a decimal may have.
+const DECIMAL_CAP: u64 = 10_000_000_000_000_000;
 
+// Above every number of 38 digits, so that a longer text can be read without an overflow.
 const DIGITS_CAP: u128 = 100_000_000_000_000_000_000_000_000_000_000_000_000;
 
 // The number with one more digit, or 10^38 where it isn't below that.
@@ -50,19 +51,20 @@ fn digits(text: &[u8]) -> Option<u128>
     Some(number)
 }
 
-fn point_at(text: &[u8]) -> Option<usize>
-    ensures place { result ≡ position (λ b. b == 46) text.now }
-    ensures within { IfSome result (λ i. i < length text.now) }
-{
-    text.iter().position(|byte| *byte == b'.')
-}
-
 // The same with the cap of decimals.
 fn capped_digits(text: &[u8]) -> Option<u64>
     ensures value { result ≡ (if is_number text.now then Some (min (digits_value 10 text.now) (10 ^ 16)) else None) }
     ensures small { IfSome result (λ n. n ≤ 10 ^ 16) }
 {
-    Some(digits(text)?.min(u128::from(CAP)) as u64)
+    Some(digits(text)?.min(u128::from(DECIMAL_CAP)) as u64)
+}
+
+// Where the first point stands.
+fn point_at(text: &[u8]) -> Option<usize>
+    ensures place { result ≡ position (λ b. b == 46) text.now }
+    ensures within { IfSome result (λ i. i < length text.now) }
+{
+    text.iter().position(|byte| *byte == b'.')
 }
 
 // The decimal without a point, or the cap where it isn't below that.
@@ -71,7 +73,7 @@ fn capped_whole(whole: &[u8], places: u8) -> Option<u64>
     ensures { result ≡ option_map (λ n. min n (10 ^ 16)) (whole_decimal places whole.now) }
 {
     let number = u128::from(capped_digits(whole)?) * u128::from(power_of_ten(places));
-    Some(number.min(u128::from(CAP)) as u64)
+    Some(number.min(u128::from(DECIMAL_CAP)) as u64)
 }
 
 // The decimal of a whole part and a fraction, or the cap where it isn't below that.
@@ -86,7 +88,7 @@ fn capped_parts(whole: &[u8], fraction: &[u8], places: u8) -> Option<u64>
     let missing = places - fraction.len() as u8;
     let fraction = u128::from(capped_digits(fraction)?) * u128::from(power_of_ten(missing));
     let number = u128::from(whole) * u128::from(power_of_ten(places)) + fraction;
-    Some(number.min(u128::from(CAP)) as u64)
+    Some(number.min(u128::from(DECIMAL_CAP)) as u64)
 }
 
 // The decimal that a text writes, or the cap where it isn't below that.

@@ -1,12 +1,9 @@
 -- What sources and sinks do to the bytes that they tell, and to their counts of faults.
-use Rattle.std.specs.Prelude.{◌≡◌, ◌⊎◌, ◌+◌, ◌-◌, ◌^◌, ◌<◌, ◌≤◌, ◌++◌, ℕ, min, List, [], take, drop, length, Option, Some, None, Result, Ok, Err, IsErr, OnOk}
+use Rattle.std.specs.Prelude.{◌≡◌, ◌⊎◌, ◌+◌, ◌-◌, ◌^◌, ◌<◌, ◌≤◌, ◌++◌, ℕ, min, List, take, drop, length, Option, Result, Ok, Err, IsErr, OnOk}
 use Rattle.std.specs.Io.KnownBytes.{append_known, prepend_known}
 use Rattle.tb_outside.specs.declared.Failed.{Failed}
-
 -- nothing is left, where the bytes are told
-abbrev pub IsAtEnd : Option (List ℕ) → Type 0
-IsAtEnd None = Unit {0}
-IsAtEnd (Some bytes) = bytes ≡ []
+pub use Rattle.std.specs.Io.KnownBytes.{IsAtEnd}
 
 -- old is these bytes and then new, where the bytes are told; they are told after exactly where they were told before
 abbrev pub Takes : Option (List ℕ) → Option (List ℕ) → List ℕ → Type 0
@@ -34,19 +31,27 @@ abbrev pub Puts : Option (List ℕ) → Option (List ℕ) → List ℕ → Resul
 Puts old new piece (Ok n) = (n ≤ length piece) × (0 < length piece → 0 < n) × Adds old new (take n piece)
 Puts old new piece (Err e) = new ≡ old
 
+-- the last value of a count of faults or of calls, where it stays
+abbrev pub last_count : ℕ
+last_count = 2 ^ 64 - 1
+
+-- one more
+abbrev pub counted_up : ℕ → ℕ
+counted_up count = min (count + 1) last_count
+
 -- the count of faults rose, or stands at its last value
 abbrev pub Rose : ℕ → ℕ → Type 0
-Rose before now = (before < now) ⊎ (2 ^ 64 - 1 ≤ now)
+Rose before now = (before < now) ⊎ (last_count ≤ now)
 
 -- the count never falls, and rose where the call failed
 pub record HasCause {T E : Type 0} (before now : ℕ) (result : Result T E) : Type 0 where
   pub later : before ≤ now
   pub failed : IsErr result → Rose before now
 
--- one more fault for a call that failed, up to the last value of the count
+-- one more fault for a call that failed
 abbrev pub faults_after : {T E : Type 0} → ℕ → Result T E → ℕ
 faults_after before (Ok x) = before
-faults_after before (Err e) = min (before + 1) (2 ^ 64 - 1)
+faults_after before (Err e) = counted_up before
 
 -- a read put n more bytes behind those that were kept before
 pub record ReadMore (old new : Option (List ℕ)) (kept grown : List ℕ) (room n : ℕ) : Type 0 where

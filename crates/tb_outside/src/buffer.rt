@@ -1,5 +1,6 @@
 // A buffer between a writer of many small pieces and a sink.
 ghost use Rattle.std.specs.Prelude.{◌≡◌, ◌+◌, ◌≤◌, ◌++◌, ◌↔◌, [], length, IsTrue, IsOk, OnErr};
+ghost use Rattle.std.specs.List.{flat_map};
 ghost use Rattle.tb_outside.specs.Outside.{Gathers, HasCause, Writes};
 
 use crate::{Sink, SinkFault, put_all};
@@ -13,7 +14,7 @@ pub const BUFFER_SIZE: usize = 4096;
 ///
 /// A writer takes one that is empty, puts its pieces and ends with `flush`. A fault at any of these is the writer's
 /// own, and it ends with it: nothing waits then.
-#[derive(Drop)]
+#[derive(Debug, Drop)]
 pub struct OutputBuffer {
     bytes: [u8; BUFFER_SIZE],
     len: usize,
@@ -64,6 +65,19 @@ impl OutputBuffer {
         put_all(sink, piece)
     }
 
+    /// Puts several pieces, one behind the other.
+    pub fn put_pieces<K: Sink>(&mut self, sink: &mut K, pieces: &[&[u8]]) -> Result<(), SinkFault>
+        ensures gathers { Gathers (K.holds sink.old) (K.holds sink.new)
+            (self.old ++ flat_map (λ p. p.now) pieces.now) self.new result }
+        ensures cause { HasCause (K.faults sink.old) (K.faults sink.new) result }
+        ensures fault { OnErr result (self.new ≡ []) }
+    {
+        for piece in pieces {
+            self.put(sink, piece)?;
+        }
+        Ok(())
+    }
+
     /// Puts all that waits into the sink. Nothing waits afterwards, also where the sink failed.
     pub fn flush<K: Sink>(&mut self, sink: &mut K) -> Result<(), SinkFault>
         ensures writes { Writes (K.holds sink.old) (K.holds sink.new) self.old result }
@@ -89,5 +103,13 @@ impl OutputBuffer {
         let end = self.len + piece.len();
         self.bytes[self.len..end].copy_from_slice(piece);
         self.len = end;
+    }
+}
+
+impl Default for OutputBuffer {
+    ghost is_default = { λ b. b ≡ [] };
+
+    fn default() -> OutputBuffer {
+        OutputBuffer::new()
     }
 }

@@ -1,29 +1,14 @@
 // A source and a sink in memory.
-ghost use Rattle.std.specs.Prelude.{
-  ◌≡◌,
-  ◌-◌,
-  ◌↔◌,
-  ℕ,
-  min,
-  [],
-  List,
-  take,
-  drop,
-  length,
-  Some,
-  IfOk,
-  IsErr,
-  IsOk,
-};
-ghost use Rattle.tb_outside.specs.Outside.{HasCause, Puts, Reads, faults_after};
-ghost use Rattle.tb_outside.specs.MemoryState.{MemoryState, MustFail, next_call};
+ghost use Rattle.std.specs.Prelude.{◌≡◌, ◌-◌, ◌↔◌, min, [], length, Some, take, IfOk, IsErr, IsOk};
+ghost use Rattle.tb_outside.specs.Outside.{HasCause, Puts, Reads, counted_up, faults_after};
+ghost use Rattle.tb_outside.specs.MemoryState.{MustFail};
 
 use crate::{Failed, NoMemory, Sink, Source};
 use std::alloc::Global;
 use std::marker::Model;
 
 /// Bytes in memory, given without a fault. Contracts see it as the bytes that are left.
-#[derive(Drop)]
+#[derive(Debug, Drop)]
 pub struct SteadySource {
     bytes: Vec<u8>,
     at: usize,
@@ -77,7 +62,7 @@ fn copy_front(bytes: &[u8], buf: &mut [u8]) -> usize
 
 /// Room in memory, reserved when it is made. It fails at calls that are chosen beforehand, counted from 1, and wherever
 /// a piece that isn't empty finds no room. Contracts see it as a `MemoryState`.
-#[derive(Drop)]
+#[derive(Debug, Drop)]
 pub struct MemorySink {
     bytes: Vec<u8>,
     room: usize,
@@ -150,7 +135,7 @@ impl Sink for MemorySink {
             n ≡ min (length piece.now) (self.old.room - length self.old.written)) }
 
         ensures count { self.new.faults ≡ faults_after self.old.faults result }
-        ensures calls { self.new.calls ≡ next_call self.old.calls }
+        ensures calls { self.new.calls ≡ counted_up self.old.calls }
         ensures same { (self.new.room ≡ self.old.room) × (self.new.fails ≡ self.old.fails) }
     {
         self.calls = self.calls.saturating_add(1);

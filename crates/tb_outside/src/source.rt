@@ -1,30 +1,8 @@
 // Sources of bytes.
-ghost use Rattle.std.specs.Prelude.{
-  ◌≡◌,
-  ◌+◌,
-  ◌^◌,
-  ◌<◌,
-  ◌≤◌,
-  ℕ,
-  List,
-  Option,
-  length,
-  vec_len,
-  IfOk,
-  OnOk,
-  IsErrOf,
-  IsErr,
-};
-ghost use Rattle.tb_outside.specs.Outside.{
-  HasCause,
-  IsAtEnd,
-  ReadMore,
-  Reads,
-  Rose,
-  Takes,
-  TakesAtMost,
-  TakesExactly,
-};
+ghost use Rattle.std.specs.Prelude.{◌≡◌, ◌+◌, ◌^◌, ◌<◌, ◌≤◌, ℕ, List, Option, length, vec_len};
+ghost use Rattle.std.specs.Prelude.{IfOk, OnOk, IsErrOf};
+ghost use Rattle.tb_outside.specs.Outside.{HasCause, IsAtEnd, Reads, ReadMore, Rose};
+ghost use Rattle.tb_outside.specs.Outside.{Takes, TakesAtMost, TakesExactly};
 
 use crate::Failed;
 use std::alloc::Global;

@@ -136,7 +136,7 @@ fn put_cells<K: Sink>(
     ensures cause { HasCause (K.faults sink.old) (K.faults sink.new) result }
 {
     for value in values {
-        buffer.put(sink, &[b',', *value])?;
+        buffer.put_pieces(sink, &[b",", &[*value]])?;
     }
     Ok(())
 }
@@ -186,10 +186,9 @@ fn a_long_piece_goes_behind_what_waits(rt: HostRuntime) -> Result<(), Fail> {
     let long = counted_bytes(rt.alloc(), 5000)?;
     let mut sink = MemorySink::new(rt.alloc(), 6000, Vec::new(rt.alloc()))?;
     let mut buffer = OutputBuffer::new();
-    buffer.put(&mut sink, b"head")?;
+    buffer.put(&mut sink, b"he")?;
     assert_eq!(rt; sink.bytes().len(), 0);
-    buffer.put(&mut sink, &long)?;
-    buffer.put(&mut sink, b"tail")?;
+    buffer.put_pieces(&mut sink, &[b"ad", &long, b"tail"])?;
     assert_eq!(rt; sink.bytes().len(), 5004);
     buffer.flush(&mut sink)?;
     assert_eq!(rt; sink.bytes().len(), 5008);

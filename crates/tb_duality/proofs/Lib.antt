@@ -1,0 +1,12 @@
+pub mod CellAlgebra
+pub mod Terms
+pub mod Corners
+pub mod MeshSums
+pub mod Jumps
+pub mod Leaks
+pub mod Duality
+pub mod CellLaws
+pub mod Resistances
+pub mod PhysicalMeshes
+pub mod EndLaws
+pub mod WallLaws

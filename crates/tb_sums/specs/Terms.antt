@@ -1,0 +1,57 @@
+-- The terms in the words of the model, and the numbers that they may be made of.
+use Rattle.std.specs.Prelude.{ℕ, All, pos}
+use Rattle.tb_math.specs.Rational.{ℚ, int, ◌*ℚ◌}
+use Rattle.tb_model.specs.Energy.{passage, cell_energy, surface_energy, cell_loss, surface_loss}
+use Rattle.tb_sums.specs.declared.field.FieldCell.{FieldCell}
+use Rattle.tb_sums.specs.declared.field.FieldFace.{FieldFace}
+use Rattle.tb_sums.specs.declared.flux.FluxCell.{FluxCell}
+use Rattle.tb_sums.specs.declared.flux.FluxFace.{FluxFace}
+use Rattle.tb_sums.specs.Spread.{corner_spread}
+use Rattle.tb_sums.specs.Limits.{IsConductivity, IsResistance, IsWidth, IsDifference, IsFlow}
+
+-- the area of a cross-section with these widths, in 10⁻⁸ m²
+abbrev pub area_of : ℕ → ℕ → ℚ
+area_of b c = int (pos b) *ℚ int (pos c)
+
+-- Values --
+
+abbrev pub field_cell_term : FieldCell → ℚ
+field_cell_term x = cell_energy (int (pos x.lambda)) (int (pos x.a)) (area_of x.b x.c) (corner_spread x.d)
+
+abbrev pub field_face_term : FieldFace → ℚ
+field_face_term x = surface_energy x.rs (area_of x.b x.c) (corner_spread x.t)
+
+abbrev pub flux_cell_term : FluxCell → ℚ
+flux_cell_term x = cell_loss (int (pos x.lambda)) (int (pos x.a)) (area_of x.b x.c) (passage (int x.low) (int x.high))
+
+abbrev pub flux_face_term : FluxFace → ℚ
+flux_face_term x = surface_loss x.rs (area_of x.b x.c) (int x.flow)
+
+-- Limits --
+
+pub record FitsFieldCell (x : FieldCell) : Type 0 where
+  pub conductivity : IsConductivity x.lambda
+  pub a : IsWidth x.a
+  pub b : IsWidth x.b
+  pub c : IsWidth x.c
+  pub differences : All IsDifference x.d
+
+pub record FitsFieldFace (x : FieldFace) : Type 0 where
+  pub resistance : IsResistance x.rs
+  pub b : IsWidth x.b
+  pub c : IsWidth x.c
+  pub differences : All IsDifference x.t
+
+pub record FitsFluxCell (x : FluxCell) : Type 0 where
+  pub conductivity : IsConductivity x.lambda
+  pub a : IsWidth x.a
+  pub b : IsWidth x.b
+  pub c : IsWidth x.c
+  pub low : IsFlow x.low
+  pub high : IsFlow x.high
+
+pub record FitsFluxFace (x : FluxFace) : Type 0 where
+  pub resistance : IsResistance x.rs
+  pub b : IsWidth x.b
+  pub c : IsWidth x.c
+  pub flow : IsFlow x.flow

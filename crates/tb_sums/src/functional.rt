@@ -1,0 +1,46 @@
+// What the terms have in common.
+ghost use Rattle.std.specs.Prelude.{◌≡◌, ℕ, ◌*◌, ◌<◌, ℤ, pos, ◌≤ℤ◌, ◌<ℤ◌};
+ghost use Rattle.tb_math.specs.Ceiling.{quotient_up, ceiling};
+ghost use Rattle.tb_math.specs.Rational.{ℚ, int, ◌*ℚ◌, ◌≤ℚ◌};
+
+/// One term of a field's energy or of a flux's loss: the quotient of two whole numbers, in fW/K.
+///
+/// The quotient is exact. Rounded up, it is what the term adds to an end of an interval.
+pub trait Functional {
+    // the numbers are within the limits of their units
+    ghost Fits: { Self → Type 0 };
+
+    // the exact value, in the words of the model
+    ghost term: { Self → ℚ };
+
+    // the denominator
+    ghost divisor: { Self → ℕ };
+
+    // the greatest value that a term may have
+    ghost greatest: { ℕ };
+
+    /// The numerator of the term. It isn't negative.
+    fn numerator(&self) -> i128
+        requires within_limits { Fits self.now }
+        ensures value { int result ≡ int (pos (divisor self.now)) *ℚ term self.now }
+        ensures not_negative { pos 0 ≤ℤ result }
+        ensures bounded { term self.now ≤ℚ int (pos greatest) };
+
+    /// The denominator of the term. It is above 0.
+    fn denominator(&self) -> i128
+        requires within_limits { Fits self.now }
+        ensures value { result ≡ pos (divisor self.now) }
+        ensures positive { pos 0 <ℤ result };
+}
+
+/// A term rounded up to a whole number is its numerator over its denominator, rounded up.
+pub fn terms_round_up<F: Functional>()
+    ensures { (x : F) (n : ℤ) → 0 < F.divisor x → int n ≡ int (pos (F.divisor x)) *ℚ F.term x → ceiling (F.term x) ≡ quotient_up n (F.divisor x) }
+{}
+
+// The area of a cross-section with these widths, in 10⁻⁸ m².
+pub(crate) fn section(b: u32, c: u32) -> u64
+    ensures { result ≡ b * c }
+{
+    u64::from(b) * u64::from(c)
+}
