@@ -4,3 +4,4 @@ pub mod Energy
 pub mod Soundness
 pub mod Values
 pub mod Positive
+pub mod Faults

@@ -20,6 +20,9 @@ const DECIMAL_CAP: u64 = 10_000_000_000_000_000;
 // Above every number of 38 digits, so that a longer text can be read without an overflow.
 const DIGITS_CAP: u128 = 100_000_000_000_000_000_000_000_000_000_000_000_000;
 
+// The most digits of a whole number: all such numbers fit an `i128`.
+const MOST_DIGITS: usize = 38;
+
 // The number with one more digit, or 10^38 where it isn't below that.
 fn with_digit(number: u128, digit: u8) -> u128
     requires number { number ≤ 10 ^ 38 }
@@ -155,7 +158,7 @@ pub fn parse_whole(text: &[u8]) -> Option<i128>
     ensures { result ≡ whole_reading text.now }
 {
     let (negative, unsigned) = split_sign(text);
-    if unsigned.len() > 38 {
+    if unsigned.len() > MOST_DIGITS {
         return None;
     }
     let size = digits(unsigned)? as i128;

@@ -5,7 +5,7 @@ ghost use Rattle.tb_numbers.specs.Quotients.{Side, above, below, rounded};
 /// A way to round quotients: each to the whole number next to it on one side.
 ///
 /// The answer times the divisor is then on that side of the dividend, by less than the divisor
-/// (`quotients_bracket`).
+/// (`rounding_laws`).
 pub trait Rounding {
     ghost side: { Side };
 

@@ -32,7 +32,7 @@ impl NumberText {
         &self.bytes[..self.len]
     }
 
-    // A minus where the number is below 0.
+    // A minus where the number is below 0. Bytes past the length don't count.
     fn from_sign(value: i128) -> NumberText
         ensures { result ≡ sign value }
     {

@@ -49,7 +49,7 @@ impl OutputBuffer {
         ensures cause { HasCause (K.faults sink.old) (K.faults sink.new) result }
         ensures fault { OnErr result (self.new ≡ []) }
 
-        // A piece that fits isn't put yet.
+        // A piece that fits waits, and the sink isn't called.
         ensures fits { length self.old + length piece.now ≤ BUFFER_SIZE
             → IsOk result × (sink.new ≡ sink.old) × (self.new ≡ self.old ++ piece.now) }
     {

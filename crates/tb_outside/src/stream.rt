@@ -8,8 +8,8 @@ use crate::{Failed, Sink, Source};
 use std::io::{Read, Write};
 use std::marker::Model;
 
-/// A source over a reader of std. It tells no bytes, and counts the reader's errors. Contracts see it as the reader and
-/// that count.
+/// A source over a reader of std. It tells no bytes, and counts the reader's errors, an interrupted read among them.
+/// Contracts see it as the reader and that count.
 #[derive(Drop)]
 pub struct StdSource<R> {
     inner: R,

@@ -6,9 +6,10 @@ ghost use Rattle.tb_sums.specs.Spread.{corner_spread};
 
 use crate::functional::{Functional, section};
 
-/// The term of one axis of a solid cell: λ · bc/a · M/36, where M is the spread of the four differences.
+/// The term of one axis of a solid cell: λ · bc/a · M/36, with the spread M of the differences.
 ///
-/// The spread of four corner values is 36 times the mean square of the bilinear function between them.
+/// The spread of four corner values is 36 times the mean square of the bilinear function that has
+/// them. In the units of the fields the term is λ·b·c·M over 36·a·10⁹.
 #[derive(Clone, Copy, Debug, PartialEq, Eq)]
 pub struct FieldCell {
     /// The conductivity along the axis, in 10⁻⁴ W/(m·K).
@@ -19,12 +20,14 @@ pub struct FieldCell {
     pub b: u32,
     /// The second width across the axis, in 0.1 mm.
     pub c: u32,
-    /// The differences of the node values along the axis, in 10⁻⁸ of the temperature difference: at the corners (0,0),
-    /// (1,0), (0,1) and (1,1) of the cross-section, the earlier axis first.
+    /// The differences of the node values along the axis, in 10⁻⁸ of the temperature difference: at
+    /// the corners (0,0), (1,0), (0,1), (1,1) of the cross-section, the earlier axis first.
     pub d: [i64; 4],
 }
 
-/// The term of a surface face: bc/Rs · M/36, where M is the spread of the four differences.
+/// The term of a surface face: bc/Rs · M/36, with the spread M of the differences.
+///
+/// In the units of the fields it is b·c·M over 36·Rs·10⁵.
 #[derive(Clone, Copy, Debug, PartialEq, Eq)]
 pub struct FieldFace {
     /// The surface resistance, in 10⁻⁴ m²K/W.
@@ -33,8 +36,8 @@ pub struct FieldFace {
     pub b: u32,
     /// The second width of the face, in 0.1 mm.
     pub c: u32,
-    /// The node values less the temperature of the environment, in 10⁻⁸ of the temperature difference: at the corners
-    /// (0,0), (1,0), (0,1) and (1,1) of the face, the earlier axis first.
+    /// The node values less that of the environment, in 10⁻⁸ of the temperature difference: at the
+    /// corners (0,0), (1,0), (0,1), (1,1) of the face, the earlier axis first.
     pub t: [i64; 4],
 }
 
@@ -79,8 +82,8 @@ impl Functional for FieldFace {
     }
 }
 
-// The spread of four corner values, by Simpson's rule in both directions, which is exact for the square of a bilinear
-// function: the spreads of two opposite edges, and of the line midway, where a sum stands for twice the mean.
+// The spread of four corner values, by Simpson's rule in both directions, which is exact for the
+// square of a bilinear function. A sum of two values stands for twice the value midway.
 fn spread_of(d: &[i64; 4]) -> u64
     requires { All IsDifference d.now }
     ensures value { int (pos result) ≡ corner_spread d.now }

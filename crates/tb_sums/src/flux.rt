@@ -4,7 +4,10 @@ ghost use Rattle.tb_sums.specs.Limits.{IsFlow};
 
 use crate::functional::{Functional, section};
 
-/// The term of one axis of a solid cell: a/(bc·λ) · (F0² + F0·F1 + F1²)/3, with the flows F0 and F1 through its two faces.
+/// The term of one axis of a solid cell: a/(bc·λ) · (F0² + F0·F1 + F1²)/3, with the flows F0 and F1
+/// through its low and its high face.
+///
+/// In the units of the fields it is a·(F0² + F0·F1 + F1²)·10⁵ over 3·λ·b·c.
 #[derive(Clone, Copy, Debug, PartialEq, Eq)]
 pub struct FluxCell {
     /// The conductivity along the axis, in 10⁻⁴ W/(m·K).
@@ -22,6 +25,8 @@ pub struct FluxCell {
 }
 
 /// The term of a surface face: Rs/bc · F², with the flow F through it.
+///
+/// In the units of the fields it is 10·Rs·F² over b·c.
 #[derive(Clone, Copy, Debug, PartialEq, Eq)]
 pub struct FluxFace {
     /// The surface resistance, in 10⁻⁴ m²K/W.

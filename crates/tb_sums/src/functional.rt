@@ -7,13 +7,13 @@ ghost use Rattle.tb_math.specs.Rational.{ℚ, int, ◌*ℚ◌, ◌≤ℚ◌};
 ///
 /// The quotient is exact. Rounded up, it is what the term adds to an end of an interval.
 pub trait Functional {
-    // the numbers are within the limits of their units
+    // each number is within the limits of its quantity
     ghost Fits: { Self → Type 0 };
 
     // the exact value, in the words of the model
     ghost term: { Self → ℚ };
 
-    // the denominator
+    // the denominator, so that the numerator is determined
     ghost divisor: { Self → ℕ };
 
     // the greatest value that a term may have
@@ -35,7 +35,8 @@ pub trait Functional {
 
 /// A term rounded up to a whole number is its numerator over its denominator, rounded up.
 pub fn terms_round_up<F: Functional>()
-    ensures { (x : F) (n : ℤ) → 0 < F.divisor x → int n ≡ int (pos (F.divisor x)) *ℚ F.term x → ceiling (F.term x) ≡ quotient_up n (F.divisor x) }
+    ensures { (x : F) (n : ℤ) → 0 < F.divisor x → int n ≡ int (pos (F.divisor x)) *ℚ F.term x →
+        ceiling (F.term x) ≡ quotient_up n (F.divisor x) }
 {}
 
 // The area of a cross-section with these widths, in 10⁻⁸ m².

@@ -1,16 +1,18 @@
 //! The terms of the two ends of an interval, each as a quotient of whole numbers.
 //!
-//! The energy of a temperature field and the loss of a heat flux are sums over the cells and surfaces of a body.
-//! Each struct here is one term of such a sum, made of the numbers that it depends on, and [`Functional`] gives its
-//! exact value as a numerator over a denominator, in fW/K.
+//! The energy of a temperature field and the loss of a heat flux are sums over the solid cells and
+//! the surfaces of a body. Each struct here is one term of such a sum, made of the numbers that it
+//! depends on, and [`Functional`] gives its exact value as a numerator over a denominator, in fW/K.
+//! The upper end of an interval is a sum of such quotients, each rounded up, and the lower end is
+//! the flux's source less such a sum.
 //!
 //! | quantity | unit | limits |
 //! |---|---|---|
 //! | width of a cell | 0.1 mm | 1 to 500,000 |
 //! | thermal conductivity λ | 10⁻⁴ W/(m·K) | 1 to 5,000,000 |
 //! | surface resistance Rs | 10⁻⁴ m²K/W | 1 to 100,000 |
-//! | temperature | 10⁻⁸ of the difference between the environments | differences of at most 10⁸ |
-//! | heat flow | nW per unit difference | at most 10¹² |
+//! | difference of node values | 10⁻⁸ of the temperature difference | −10⁸ to 10⁸ |
+//! | flow through a face | nW per unit difference | −10¹² to 10¹² |
 //! | term, end of an interval | fW/K | |
 #![tactic(auto)]
 

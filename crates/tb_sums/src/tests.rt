@@ -1,6 +1,7 @@
-// The terms of a wall of λ 1 W/(m·K), 0.2 m thick and 1 m² large, with the surfaces 0.13 and 0.04 m²K/W: those of the
-// linear field and those of the straight flux, rounded up to 1460920376917458, 949598239590943 and 292184086194303, and
-// to 1460920379079621, 949598246401754 and 292184075815925. Then terms of values that differ, and the greatest terms.
+// The terms of a wall with λ 1 W/(m·K), 0.2 m thick and 1 m² large, between surfaces of 0.13 and
+// 0.04 m²K/W: for its linear field (rounded up 1460920376917458, 949598239590943, 292184086194303)
+// and its straight flux (1460920379079621, 949598246401754, 292184075815925). Then terms of unlike
+// values, and the greatest terms.
 use crate::{FieldCell, FieldFace, FluxCell, FluxFace, Functional};
 use std::process::Abort;
 

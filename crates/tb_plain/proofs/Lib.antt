@@ -1,0 +1,12 @@
+pub mod Lines
+pub mod Occupants
+pub mod Sites
+pub mod Items
+pub mod Rises
+pub mod Totals
+pub mod Ceilings
+pub mod Cases
+pub mod Arms
+pub mod Bounds
+pub mod Flows
+pub mod Stored

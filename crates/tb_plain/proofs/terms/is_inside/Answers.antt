@@ -1,0 +1,7 @@
+use Rattle.std.proofs.Common.{◌∙◌, ◌≡◌, ◌≤◌, ◌<◌, ◌^◌, false, arith, ap}
+use Rattle.std.specs.Prelude.{nat_lt}
+use Rattle.tb_plain.proofs.Cases.{beyond, none_below}
+use Rattle.tb_plain.proofs.terms.is_inside.Goals as goal
+
+pub returns-else-environment-lt8 : goal.returns-else-environment-lt8
+returns-else-environment-lt8 c = none_below c.args.environment c.if-environment-lt8.false ∙ beyond c.args.mask c.args.environment (omega arith) c.if-environment-lt8.false

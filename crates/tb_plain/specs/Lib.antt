@@ -1,0 +1,4 @@
+pub mod Plain
+pub mod Values
+pub mod Summation
+pub mod Items
