@@ -12,7 +12,7 @@ use Rattle.tb_math.specs.Rational.{ℚ, int, ◌+ℚ◌, ◌-ℚ◌, ◌*ℚ◌,
 use Rattle.tb_math.proofs.RationalOrder.{≤ℚ-add, ≤ℚ-refl}
 use Rattle.tb_math.proofs.RationalProducts.{cancel_le_ℚ}
 use Rattle.tb_math.proofs.RationalRing.{to_difference, from_difference}
-use Rattle.tb_math.proofs.DivisionLaws.{<ℚ-mul_positive}
+use Rattle.tb_math.proofs.DivisionLaws.{product-is_positive}
 use Rattle.tb_math.proofs.ReadRationals.{by_reading, by_given, reading, none, given}
 use Rattle.tb_places.specs.declared.AxisName.{AxisName}
 use Rattle.tb_places.specs.declared.AxisName.TheVariants.{X, Y, Z}
@@ -88,7 +88,7 @@ bounded_adds f g h k = added (f of_source) (f of_jumps) (f of_leaks) (f of_field
         (≤ℚ-add (int (pos 800000000) *ℚ s +ℚ (j +ℚ l)) (int (pos 400) *ℚ (e +ℚ c)) (int (pos 800000000) *ℚ s' +ℚ (j' +ℚ l')) (int (pos 400) *ℚ (e' +ℚ c')) h k))
 
 section_positive : (m : Mesh) → IsPhysical m → (a : AxisName) (j k : ℕ) → j < m.cells (second a) → k < m.cells (third a) → int (pos 0) <ℚ cross_section m a j k
-section_positive m physical a j k hj hk = <ℚ-mul_positive (m.width (second a) j) (m.width (third a) k) (physical.widths (second a) j hj) (physical.widths (third a) k hk)
+section_positive m physical a j k hj hk = product-is_positive (m.width (second a) j) (m.width (third a) k) (physical.widths (second a) j hj) (physical.widths (third a) k hk)
 
 conducts : (m : Mesh) → IsPhysical m → (a : AxisName) (i j k n : ℕ) → i < m.cells a → j < m.cells (second a) → k < m.cells (third a) → along a m.occupant i j k ≡ Some (Solid n) → int (pos 0) <ℚ m.conductivity n a
 conducts m physical X i j k n hi hj hk is = physical.conductivities X i j k n (hi, hj, hk) is

@@ -18,7 +18,7 @@ use Rattle.tb_math.proofs.RationalOrder.{≤ℚ-int}
 use Rattle.tb_math.proofs.RationalProducts.{≤ℚ-mul}
 use Rattle.tb_math.proofs.ReadRationals.{by_reading, reading}
 use Rattle.tb_math.proofs.StrictOrder.{int-≤, <ℚ-int}
-use Rattle.tb_math.proofs.DivisionLaws.{<ℚ-mul_positive}
+use Rattle.tb_math.proofs.DivisionLaws.{product-is_positive}
 use Rattle.tb_places.specs.declared.AxisName.{AxisName}
 use Rattle.tb_detail.specs.declared.Content.{Content}
 use Rattle.tb_detail.specs.declared.Content.TheVariants.{Solid, Air}
@@ -57,7 +57,7 @@ gap-positive p q h = let g : 0 < q - p = omega arith in <ℚ-int (pos 0) (pos (q
 
 pub mesh_physical : (s : Scene) (r : Refinement) → Refines s r → HasPositiveBoxes s → IsPhysical (mesh s r)
 mesh_physical s r refines boxes = record {
-  widths = λ a i h. <ℚ-mul_positive (int (pos (line r a (suc i) - line r a i))) (one_over r.scale) (rising a i h) (one_over-positive r.scale refines.scaled);
+  widths = λ a i h. product-is_positive (int (pos (line r a (suc i) - line r a i))) (one_over r.scale) (rising a i h) (one_over-positive r.scale refines.scaled);
   conductivities = λ a i j k material cell is. occupant_is s r boxes i j k (Solid material) is a;
   resistances = λ a i j k e rs low hi hj hk is. surfaces_resist (mesh s r) (λ i j k e rs. occupant_is s r boxes i j k (Air e rs)) a i j k e rs low is;
 }

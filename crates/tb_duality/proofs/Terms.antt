@@ -9,7 +9,7 @@ use Rattle.tb_math.specs.Division.{inverse, ◌/ℚ◌}
 use Rattle.tb_math.proofs.RationalLaws.{int-mul, one_over_cancel}
 use Rattle.tb_math.proofs.RationalOrder.{≤ℚ-one_over}
 use Rattle.tb_math.proofs.StrictOrder.{<ℚ-≤, <ℚ-int}
-use Rattle.tb_math.proofs.DivisionLaws.{inverse-positive, inverse-nonneg, <ℚ-mul_positive}
+use Rattle.tb_math.proofs.DivisionLaws.{inverse-positive, inverse-nonneg, product-is_positive}
 use Rattle.tb_math.proofs.ReadRationals.{by_reading, reading}
 use Rattle.tb_model.specs.Energy.{spread, passage, cell_energy, cell_loss, surface_energy, surface_loss}
 use Rattle.tb_duality.proofs.CellAlgebra.{axis_law, surface_law}
@@ -23,7 +23,7 @@ pub cell_law : (conductivity width section F0 F1 d00 d10 d01 d11 : ℚ) → int 
     (F0 +ℚ F1) *ℚ (d00 +ℚ d10 +ℚ d01 +ℚ d11)
     ≤ℚ int (pos 400) *ℚ (cell_energy conductivity width section (spread d00 d10 d01 d11) +ℚ cell_loss conductivity width section (passage F0 F1))
 cell_law c a s F0 F1 d00 d10 d01 d11 hc ha hs =
-    let hk : int (pos 0) <ℚ int (pos 3) *ℚ s *ℚ c = <ℚ-mul_positive (int (pos 3) *ℚ s) c (<ℚ-mul_positive (int (pos 3)) s three_positive hs) hc in
+    let hk : int (pos 0) <ℚ int (pos 3) *ℚ s *ℚ c = product-is_positive (int (pos 3) *ℚ s) c (product-is_positive (int (pos 3)) s three_positive hs) hc in
     axis_law c a s (inverse a) (inverse (int (pos 3) *ℚ s *ℚ c)) (one_over 36000000000) F0 F1 d00 d10 d01 d11
     (inverse-nonneg a (<ℚ-≤ (int (pos 0)) a ha)) (inverse-nonneg (int (pos 3) *ℚ s *ℚ c) (<ℚ-≤ (int (pos 0)) (int (pos 3) *ℚ s *ℚ c) hk)) (≤ℚ-one_over 36000000000)
     (inverse-positive a ha) (inverse-positive (int (pos 3) *ℚ s *ℚ c) hk) (one_over_cancel 36000000000 (omega arith))

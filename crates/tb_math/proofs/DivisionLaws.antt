@@ -142,10 +142,3 @@ product-is_positive p q h k = record { not_above = λ l. k.not_above (subst (λ 
     back : inverse p *ℚ (p *ℚ q) ≡ q
     back = by_given {atoms = p ∷ q ∷ inverse p ∷ []} (search reading) (search reading)
         (given q (p *ℚ inverse p) (int (pos 1)) (search reading) (search reading) (search reading) (inverse-positive p h) none) refl
-
--- products of positive numbers are positive
-pub <ℚ-mul_positive : (p q : ℚ) → int (pos 0) <ℚ p → int (pos 0) <ℚ q → int (pos 0) <ℚ p *ℚ q
-<ℚ-mul_positive p q h k = record { not_above = λ l. k.not_above (subst (λ (t : ℚ). t ≤ℚ int (pos 0)) (without (inverse p) (inverse-positive p h)) (subst (λ (t : ℚ). inverse p *ℚ (p *ℚ q) ≤ℚ t) (times-zero (inverse p)) (≤ℚ-mul (inverse p) (p *ℚ q) (int (pos 0)) (inverse-nonneg p (<ℚ-≤ (int (pos 0)) p h)) l))) }
-  where
-    without : (v : ℚ) → p *ℚ v ≡ int (pos 1) → v *ℚ (p *ℚ q) ≡ q
-    without v e = by_given {atoms = p ∷ q ∷ v ∷ []} (search reading) (search reading) (given q (p *ℚ v) (int (pos 1)) (search reading) (search reading) (search reading) e none) refl

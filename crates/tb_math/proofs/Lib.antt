@@ -19,5 +19,4 @@ pub mod CutForms
 pub mod LineLaws
 pub mod DivisionLaws
 pub mod RationalSums
-pub mod WeakDuality
 pub mod Ratios

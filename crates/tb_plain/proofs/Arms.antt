@@ -1,20 +1,20 @@
 -- What is added at a cell and at a face, for each quantity.
-use Rattle.std.specs.Prelude.{Result, Ok, Err, OnOk, OnErr, unsigned_abs}
-use Rattle.std.proofs.Common.{◌≡◌, refl, sym, ap, ◌∙◌, subst, ℕ, suc, ◌+◌, ◌-◌, ◌*◌, ◌^◌, ◌<◌, ◌≤◌, List, length, Option, Some, None, ℤ, pos, negsuc, neg_ℤ, ◌+ℤ◌, ◌-ℤ◌, ◌*ℤ◌, ◌≤ℤ◌, ◌<ℤ◌, Bool, true, false, if◌then◌else◌, arith, ◌⊎◌, inl, inr, to_z, of_z}
-use Rattle.std.proofs.lemmas.Int.{ints, to_z-of_z}
+use Rattle.std.specs.Prelude.{Result, OnOk, OnErr, unsigned_abs}
+use Rattle.std.proofs.Common.{◌≡◌, refl, sym, ap, ◌∙◌, subst, ℕ, ◌^◌, ◌≤◌, Option, Some, None, ℤ, pos, negsuc, neg_ℤ, ◌+ℤ◌, ◌-ℤ◌, ◌≤ℤ◌, ◌<ℤ◌, Bool, true, false, if◌then◌else◌, arith, ◌⊎◌, inl, inr, to_z, of_z}
+use Rattle.std.proofs.lemmas.Int.{ints}
 use Rattle.std.specs.Int.{w64}
 use lib.Signed.{le_z}
 use Rattle.tb_math.specs.Rational.{ℚ, int}
 use Rattle.tb_math.specs.Ceiling.{ceiling}
 use Rattle.tb_math.proofs.CeilingLaws.{ceiling-int}
-use Rattle.tb_numbers.specs.Quotients.{above, rounded, IsCeiling}
+use Rattle.tb_numbers.specs.Quotients.{above, rounded}
 use Rattle.tb_numbers.proofs.QuotientLaws.{ceiling_unique}
 use Rattle.tb_places.specs.Places.{along}
 use Rattle.tb_detail.specs.declared.Content.{Content}
 use Rattle.tb_detail.specs.declared.Content.TheVariants.{Solid, Air}
 use Rattle.tb_model.specs.declared.FaceKind.{FaceKind}
-use Rattle.tb_model.specs.declared.FaceKind.TheVariants.{Inner, Surface, Shut, Idle}
-use Rattle.tb_model.specs.Mesh.{Mesh, kind}
+use Rattle.tb_model.specs.declared.FaceKind.TheVariants.{Inner, Shut, Idle}
+use Rattle.tb_model.specs.Mesh.{kind}
 use Rattle.tb_model.specs.Energy.{of_solid, at_surface}
 use Rattle.tb_model.specs.Values.{case_of}
 use Rattle.tb_sums.specs.Terms.{field_cell_term, field_face_term, flux_cell_term, flux_face_term}
@@ -22,7 +22,7 @@ use Rattle.tb_plain.specs.declared.site.Site.{Site}
 use Rattle.tb_plain.specs.declared.summation.Quantity.{Quantity}
 use Rattle.tb_plain.specs.declared.summation.Quantity.TheVariants.{Energy, Loss, Inflow, Outflow}
 use Rattle.tb_plain.specs.declared.summation.Summation.{Summation}
-use Rattle.tb_plain.specs.Values.{IsTemperatures, IsFlows, entering, positive_part}
+use Rattle.tb_plain.specs.Values.{IsTemperatures, entering, positive_part}
 use Rattle.tb_plain.specs.Items.{field_cell_at, field_face_at, flow_on, flux_cell_at, flux_face_at}
 use Rattle.tb_plain.specs.Summation.{IsSummable, HasValues, terms_of, terms_under, cell_up, entered, face_up, mesh_under, solid_up, surface_up}
 use Rattle.tb_plain.proofs.Items.{field_cell_is, field_face_is, flux_cell_is, flux_face_is}

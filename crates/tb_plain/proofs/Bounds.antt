@@ -1,8 +1,7 @@
 -- How large a sum can be whose terms are all at most so large.
 use Rattle.std.specs.Prelude.{IfSome, unsigned_abs}
-use Rattle.std.proofs.Common.{◌≡◌, refl, sym, ap, ◌∙◌, subst, ℕ, zero, suc, ◌+◌, ◌*◌, ◌^◌, ◌<◌, ◌≤◌, List, length, Option, Some, None, ℤ, pos, negsuc, neg_ℤ, ◌+ℤ◌, ◌≤ℤ◌, Bool, true, false, if◌then◌else◌, arith}
+use Rattle.std.proofs.Common.{◌≡◌, refl, sym, subst, ℕ, zero, suc, ◌*◌, ◌^◌, ◌<◌, ◌≤◌, length, Option, Some, None, ℤ, pos, negsuc, neg_ℤ, ◌≤ℤ◌, Bool, true, false, if◌then◌else◌, arith}
 use Rattle.std.proofs.lemmas.Int.{ints}
-use Rattle.std.proofs.Math.Nat.{mul-le-mul}
 use Rattle.tb_math.specs.Rational.{ℚ, int}
 use Rattle.tb_math.specs.Ceiling.{ceiling}
 use Rattle.tb_math.specs.Sums.{total_ℤ}
@@ -17,7 +16,7 @@ use Rattle.tb_model.specs.declared.FaceKind.TheVariants.{Inner, Surface, Shut, I
 use Rattle.tb_model.specs.Mesh.{kind}
 use Rattle.tb_model.specs.Energy.{of_solid, at_surface, rounded_up}
 use Rattle.tb_model.specs.Values.{case_of}
-use Rattle.tb_sums.specs.Limits.{IsConductivity, IsResistance, IsFlow}
+use Rattle.tb_sums.specs.Limits.{IsConductivity, IsResistance}
 use Rattle.tb_sums.proofs.FieldTerms.{field_cell-bounded, field_face-bounded}
 use Rattle.tb_plain.specs.declared.site.Site.{Site}
 use Rattle.tb_plain.specs.declared.summation.Quantity.{Quantity}

@@ -1,23 +1,23 @@
 -- The numbers at a cell or a face are within limits, and their terms are those of the model.
-use Rattle.std.specs.Prelude.{slice_index_or, unsigned_abs}
-use Rattle.std.proofs.Common.{◌≡◌, refl, sym, ap, ◌∙◌, subst, ℕ, suc, ◌+◌, ◌-◌, ◌^◌, ◌<◌, ◌≤◌, List, [], ◌∷◌, length, get_or, All, arith, ℤ, pos, ◌+ℤ◌, ◌-ℤ◌, neg_ℤ, ◌≤ℤ◌, Bool, true, false, if◌then◌else◌, inl, inr}
+use Rattle.std.specs.Prelude.{unsigned_abs}
+use Rattle.std.proofs.Common.{◌≡◌, refl, sym, ap, ◌∙◌, subst, ℕ, suc, ◌^◌, ◌<◌, ◌≤◌, List, [], ◌∷◌, length, get_or, All, arith, ℤ, pos, ◌-ℤ◌, neg_ℤ, ◌≤ℤ◌, Bool, true, false, if◌then◌else◌}
 use Rattle.std.proofs.lemmas.Int.{ints}
 use Rattle.std.proofs.lemmas.List.Elements.{All-get_or, All-cons}
-use Rattle.tb_math.specs.Rational.{ℚ, int, ◌+ℚ◌, ◌*ℚ◌, ◌-ℚ◌, neg_ℚ, ◌≤ℚ◌}
+use Rattle.tb_math.specs.Rational.{ℚ, int, ◌+ℚ◌, ◌*ℚ◌, ◌-ℚ◌, neg_ℚ}
 use Rattle.tb_math.proofs.RationalLaws.{int-add}
 use Rattle.tb_places.specs.declared.AxisName.{AxisName}
 use Rattle.tb_places.specs.declared.AxisName.TheVariants.{X, Y, Z}
 use Rattle.tb_places.specs.Places.{along, second, third, node_number, face_number}
 use Rattle.tb_places.proofs.Nodes.{node_number_below}
 use Rattle.tb_places.proofs.Faces.{face_number_below}
-use Rattle.tb_model.specs.Energy.{Case, Terms, Field, spread, spread_at, boundary, field_terms, flux_terms, cell_energy, surface_energy, cell_loss, surface_loss, passage}
+use Rattle.tb_model.specs.Energy.{Case, spread, boundary, field_terms, flux_terms, cell_energy, surface_energy, cell_loss, surface_loss, passage}
 use Rattle.tb_model.specs.Mesh.{cross_section}
 use Rattle.tb_model.specs.Values.{field_of, flux_of}
 use Rattle.tb_sums.specs.Limits.{IsConductivity, IsResistance, IsWidth, IsDifference, IsFlow}
 use Rattle.tb_sums.specs.Terms.{area_of, FitsFieldCell, FitsFieldFace, FitsFluxCell, FitsFluxFace, field_cell_term, field_face_term, flux_cell_term, flux_face_term}
 use Rattle.tb_plain.specs.declared.grid.PlainGrid.{PlainGrid}
 use Rattle.tb_plain.specs.declared.site.Site.{Site}
-use Rattle.tb_plain.specs.Plain.{IsPlain, IsLines, IsCellAt, IsFaceAt, IsNodeAt, lines_of, mesh_of}
+use Rattle.tb_plain.specs.Plain.{IsPlain, IsCellAt, IsFaceAt, IsNodeAt, lines_of, mesh_of}
 use Rattle.tb_plain.specs.Values.{IsTemperatures, IsFlows, flow_at, temperature_at}
 use Rattle.tb_plain.specs.Items.{width_of, temperature_on, rise_on, level, flow_on, field_cell_at, field_face_at, flux_cell_at, flux_face_at}
 use Rattle.tb_plain.proofs.Lines.{line_behind, line_near, width_is, width_positive}

@@ -1,10 +1,8 @@
 -- The first box that contains the middle of a cell.
 use Rattle.std.proofs.Common.{◌≡◌, refl, ap, ◌∙◌, ℕ, suc, ◌+◌, ◌*◌, ◌&&◌, Bool, true, false, cond, List, [], ◌∷◌, Some, arith, get_or}
-use Rattle.std.specs.Prelude.{nat_le, nat_lt, Option, option_map, IfSome, All}
+use Rattle.std.specs.Prelude.{nat_le, nat_lt, option_map, IfSome, All}
 use Rattle.std.specs.List.{find}
 use Rattle.std.proofs.lemmas.List.Elements.{All-head, All-tail}
-use Rattle.tb_places.specs.declared.AxisName.TheVariants.{X, Y, Z}
-use Rattle.tb_detail.specs.declared.Content.{Content}
 use Rattle.tb_detail.specs.declared.SpaceBox.{SpaceBox}
 use Rattle.tb_model.specs.Refinement.{Scene, holds_middle, occupant}
 use Rattle.tb_model.specs.Values.{unscaled}

@@ -1,27 +1,24 @@
 -- What each cell and each face adds is not negative, and for the energy of a field it is not large.
 use Rattle.std.specs.Prelude.{IfSome, nat_lt}
-use Rattle.std.proofs.Common.{◌≡◌, refl, sym, ap, ◌∙◌, subst, ℕ, suc, ◌*◌, ◌^◌, ◌<◌, ◌≤◌, zero, List, [], ◌∷◌, length, map, get_or, Option, Some, None, ℤ, pos, ◌≤ℤ◌, Bool, true, false, if◌then◌else◌, arith}
+use Rattle.std.proofs.Common.{◌≡◌, refl, sym, subst, ℕ, suc, ◌<◌, ◌≤◌, zero, List, [], ◌∷◌, length, map, get_or, Option, Some, None, ℤ, pos, ◌≤ℤ◌, Bool, true, false, if◌then◌else◌, arith}
 use Rattle.std.proofs.lemmas.Int.{ints}
-use Rattle.std.proofs.lemmas.List.{get_or-map}
-use Rattle.std.proofs.lemmas.List.Elements.{All-get_or}
 use Rattle.tb_math.specs.Rational.{ℚ, int, ◌≤ℚ◌}
 use Rattle.tb_math.specs.Ceiling.{ceiling}
 use Rattle.tb_math.proofs.CeilingLaws.{ceiling-int, ceiling-mono, ceiling-nonneg}
 use Rattle.tb_places.specs.declared.AxisName.{AxisName}
 use Rattle.tb_places.specs.declared.AxisName.TheVariants.{X, Y, Z}
-use Rattle.tb_places.specs.Places.{along, second, third}
+use Rattle.tb_places.specs.Places.{along}
 use Rattle.tb_detail.specs.declared.Content.{Content}
 use Rattle.tb_detail.specs.declared.Content.TheVariants.{Solid, Air}
 use Rattle.tb_detail.specs.declared.Material.{Material}
 use Rattle.tb_model.specs.declared.FaceKind.{FaceKind}
 use Rattle.tb_model.specs.declared.FaceKind.TheVariants.{Inner, Surface, Shut, Idle}
-use Rattle.tb_model.specs.Mesh.{Mesh, above, below, kind, kind_between}
-use Rattle.tb_model.specs.Energy.{Case, of_solid, at_surface}
+use Rattle.tb_model.specs.Mesh.{above, below, kind, kind_between}
+use Rattle.tb_model.specs.Energy.{of_solid, at_surface}
 use Rattle.tb_model.specs.Refinement.{holds_middle}
 use Rattle.tb_model.specs.Values.{case_of, unscaled}
 use Rattle.tb_sums.specs.Limits.{IsConductivity, IsResistance}
-use Rattle.tb_sums.specs.Terms.{field_cell_term, field_face_term, flux_cell_term, flux_face_term}
-use Rattle.tb_sums.proofs.FieldTerms.{field_cell-not_below_zero, field_cell-bounded, field_face-not_below_zero, field_face-bounded}
+use Rattle.tb_sums.proofs.FieldTerms.{field_cell-not_below_zero, field_face-not_below_zero}
 use Rattle.tb_sums.proofs.FluxTerms.{flux_cell-not_below_zero, flux_face-not_below_zero}
 use Rattle.tb_plain.specs.declared.grid.PlainGrid.{PlainGrid}
 use Rattle.tb_plain.specs.declared.site.Site.{Site}
@@ -29,7 +26,6 @@ use Rattle.tb_plain.specs.declared.summation.Quantity.{Quantity}
 use Rattle.tb_plain.specs.declared.summation.Quantity.TheVariants.{Energy, Loss, Inflow, Outflow}
 use Rattle.tb_plain.specs.declared.summation.Summation.{Summation}
 use Rattle.tb_plain.specs.Plain.{IsPlain, IsKnown, IsCellAt, IsFaceAt, HasResistance, mesh_of}
-use Rattle.tb_plain.specs.Values.{IsTemperatures, entering, flow_at, positive_part}
 use Rattle.tb_plain.specs.Items.{field_cell_at, field_face_at, flux_cell_at, flux_face_at}
 use Rattle.tb_plain.specs.Summation.{IsSummable, HasValues, terms_of, terms_under, cell_up, face_up, mesh_under, solid_up, surface_up}
 use Rattle.tb_plain.proofs.Occupants.{found_known}

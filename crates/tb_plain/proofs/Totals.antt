@@ -9,7 +9,6 @@ use Rattle.tb_places.specs.declared.AxisName.{AxisName}
 use Rattle.tb_places.specs.Places.{second, third}
 use Rattle.tb_plain.specs.declared.site.Site.{Site}
 use Rattle.tb_plain.specs.declared.summation.Summation.{Summation}
-use Rattle.tb_plain.specs.Plain.{IsCellAt, IsFaceAt}
 use Rattle.tb_plain.specs.Summation.{IsSummable, axis_up, cell_up, cells_up, face_up, faces_up, layers_up, line_up, lines_up, mesh_under, solid_up, surface_up, terms_under}
 use Rattle.tb_model.specs.Energy.{rounded_up}
 use Rattle.tb_places.specs.declared.AxisName.TheVariants.{X, Y, Z}

@@ -1,10 +1,9 @@
 -- What the plain program sums up, each term rounded up.
-use Rattle.std.specs.Prelude.{ℕ, suc, ◌*◌, ◌^◌, Bool, true, false, if◌then◌else◌, List, ℤ, pos, negsuc, neg_ℤ, ◌+ℤ◌}
+use Rattle.std.specs.Prelude.{ℕ, suc, ◌*◌, ◌^◌, Bool, if◌then◌else◌, List, ℤ, pos, neg_ℤ, ◌+ℤ◌}
 use Rattle.tb_math.specs.Rational.{ℚ, int}
 use Rattle.tb_math.specs.Ceiling.{ceiling}
 use Rattle.tb_math.specs.Sums.{total_ℤ}
 use Rattle.tb_places.specs.declared.AxisName.{AxisName}
-use Rattle.tb_places.specs.declared.AxisName.TheVariants.{X, Y, Z}
 use Rattle.tb_places.specs.Places.{Counts, second, third, along}
 use Rattle.tb_model.specs.Mesh.{Mesh, kind}
 use Rattle.tb_model.specs.Energy.{Case, Terms, of_solid, at_surface, field_terms, flux_terms}

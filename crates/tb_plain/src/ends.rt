@@ -26,14 +26,16 @@ fn total_within(summation: &Summation) -> i128
     }
 }
 
-/// The upper end of an interval, in fW/K: the energy of a temperature field, each of its terms rounded up.
+/// The upper end of an interval, in fW/K: the energy of a temperature field, each term rounded up.
 ///
-/// The field has one temperature for each node, from 0 to 1 in 10⁻⁸ of the difference, in the order of the nodes. A
-/// bit of the mask is set for each environment of the case.
+/// There is one temperature for each node, from 0 to 1 in 10⁻⁸ of the difference, in the order of
+/// the nodes: i + (nx+1)·(j + (ny+1)·k) with nx, ny, nz cells along the axes. In the mask bit e is
+/// set where environment e is in the case. No sum is too large, so there is no error.
 pub fn upper_end(grid: &PlainGrid, temperatures: &[i64], mask: u8) -> i128
     requires plain { IsPlain grid.now }
     requires limits { IsTemperatures (mesh_of grid.now).cells temperatures.now }
-    ensures { result ≡ upper_end (mesh_of grid.now) (case_of mask) (field_of (mesh_of grid.now).cells temperatures.now) }
+    ensures { let m = mesh_of grid.now in
+        result ≡ upper_end m (case_of mask) (field_of m.cells temperatures.now) }
 {
     total_within(&Summation {
         grid,
@@ -43,15 +45,23 @@ pub fn upper_end(grid: &PlainGrid, temperatures: &[i64], mask: u8) -> i128
     })
 }
 
-/// The lower end of an interval, in fW/K: the source of a heat flux less its loss, each term of the loss rounded up.
+/// The lower end of an interval, in fW/K: the source of a heat flux less its loss, each term of the
+/// loss rounded up.
 ///
-/// The flux has one flow for each face, in nW per unit difference and in the order of the faces. It need not be
-/// balanced. `PastLimit` exactly where the rounded loss is above 2^120.
+/// There is one flow for each face, in nW per unit difference, in the order of the faces: from each
+/// z-line up to the next the z-faces at the line, then the x-faces and the y-faces of the layer.
+/// A flow is positive in the direction of its axis. The flux need not be balanced; only the lower
+/// end of a balanced flux is below the heat flow. In the mask bit e is set where environment e is in
+/// the case.
+///
+/// `PastLimit` exactly where the rounded loss is above 2^120.
 pub fn lower_end(grid: &PlainGrid, flows: &[i64], mask: u8) -> Result<i128, PastLimit>
     requires plain { IsPlain grid.now }
     requires limits { IsFlows (mesh_of grid.now).cells flows.now }
-    ensures value { IfOk result (λ end. end ≡ lower_end (mesh_of grid.now) (case_of mask) (flux_of (mesh_of grid.now).cells flows.now)) }
-    ensures past_limit { IsErr result ↔ (pos (2 ^ 120) <ℤ rounded_up (mesh_of grid.now) (flux_terms (mesh_of grid.now) (flux_of (mesh_of grid.now).cells flows.now))) }
+    ensures value { let m = mesh_of grid.now in
+        IfOk result (λ end. end ≡ lower_end m (case_of mask) (flux_of m.cells flows.now)) }
+    ensures past_limit { let m = mesh_of grid.now in
+        IsErr result ↔ (pos (2 ^ 120) <ℤ rounded_up m (flux_terms m (flux_of m.cells flows.now))) }
 {
     let loss = Summation {
         grid,
@@ -67,7 +77,8 @@ pub fn lower_end(grid: &PlainGrid, flows: &[i64], mask: u8) -> Result<i128, Past
 fn source(grid: &PlainGrid, flows: &[i64], mask: u8) -> i128
     requires plain { IsPlain grid.now }
     requires limits { IsFlows (mesh_of grid.now).cells flows.now }
-    ensures value { result ≡ floor (source (mesh_of grid.now) (case_of mask) (flux_of (mesh_of grid.now).cells flows.now)) }
+    ensures value { result ≡
+        floor (source (mesh_of grid.now) (case_of mask) (flux_of (mesh_of grid.now).cells flows.now)) }
     ensures size { unsigned_abs result ≤ 10 ^ 30 }
 {
     let inflow = total_within(&Summation {

@@ -24,7 +24,8 @@ impl PlainGrid {
     fn below(&self, at: Site) -> Option<Content>
         requires plain { IsPlain self.now }
         requires within { IsFaceAt (mesh_of self.now).cells at }
-        ensures value { result ≡ below (λ n. along at.axis (mesh_of self.now).occupant n at.j at.k) at.i }
+        ensures value { result ≡
+            below (λ n. along at.axis (mesh_of self.now).occupant n at.j at.k) at.i }
         ensures known { IfSome result (IsKnown self.now.detail.materials) }
     {
         if at.i == 0 {
@@ -36,7 +37,8 @@ impl PlainGrid {
     fn above(&self, at: Site) -> Option<Content>
         requires plain { IsPlain self.now }
         requires within { IsFaceAt (mesh_of self.now).cells at }
-        ensures value { result ≡ above ((mesh_of self.now).cells at.axis) (λ n. along at.axis (mesh_of self.now).occupant n at.j at.k) at.i }
+        ensures value { result ≡
+            above ((mesh_of self.now).cells at.axis) (λ n. along at.axis (mesh_of self.now).occupant n at.j at.k) at.i }
         ensures known { IfSome result (IsKnown self.now.detail.materials) }
     {
         if at.i < self.cells(at.axis) {

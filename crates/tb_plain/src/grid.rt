@@ -12,12 +12,14 @@ use crate::site::Place;
 use tb_detail::{Content, Detail, SpaceBox};
 use tb_places::AxisName;
 
-/// A detail on three lists of lines, in 0.1 mm: its cells lie between each line and the next.
+/// A detail on three lists of lines: its cells lie between each line and the next.
 ///
-/// A cell is filled with what the first box holds that contains its middle, and where no box does with nothing.
+/// A cell is filled with what the first box holds that contains its middle, and with nothing where
+/// no box does. So boxes may overlap or leave holes.
 #[derive(Debug, Drop)]
 pub struct PlainGrid {
     pub detail: Detail,
+    /// The lines across x, y and z, in 0.1 mm, strictly rising.
     pub x: Vec<u32>,
     pub y: Vec<u32>,
     pub z: Vec<u32>,
@@ -70,7 +72,8 @@ impl PlainGrid {
     pub(crate) fn lambda(&self, material: u16) -> u32
         requires plain { IsPlain self.now }
         requires known { material < length self.now.detail.materials }
-        ensures value { (axis : AxisName) → int (pos result) ≡ (mesh_of self.now).conductivity material axis }
+        ensures value { (axis : AxisName) → int (pos result) ≡
+            (mesh_of self.now).conductivity material axis }
         ensures positive { 0 < result }
         ensures most { result ≤ 5000000 }
     {
@@ -80,7 +83,8 @@ impl PlainGrid {
     // Twice the middle between a line and the next.
     fn twice_middle(&self, axis: AxisName, i: usize) -> u64
         requires { suc i < length (lines_of self.now axis) }
-        ensures { result ≡ slice_index (lines_of self.now axis) i + slice_index (lines_of self.now axis) (suc i) }
+        ensures { result ≡
+            slice_index (lines_of self.now axis) i + slice_index (lines_of self.now axis) (suc i) }
     {
         let lines = self.lines(axis);
         u64::from(lines[i]) + u64::from(lines[i + 1])

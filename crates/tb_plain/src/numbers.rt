@@ -33,7 +33,8 @@ impl PlainGrid {
     fn number_in_layer(&self, axis: AxisName, place: Place) -> usize
         requires plain { IsPlain self.now }
         requires within { IsFace (mesh_of self.now).cells axis place.i place.j place.k }
-        ensures number { result + place.k * faces_a_layer (mesh_of self.now).cells ≡ face_number (mesh_of self.now).cells axis place.i place.j place.k }
+        ensures number { result + place.k * faces_a_layer (mesh_of self.now).cells ≡
+            face_number (mesh_of self.now).cells axis place.i place.j place.k }
         ensures most { result ≤ 2 ^ 22 }
     {
         let x = self.cells(AxisName::X);
@@ -49,7 +50,8 @@ impl PlainGrid {
     pub(crate) fn face_number(&self, axis: AxisName, place: Place) -> usize
         requires plain { IsPlain self.now }
         requires within { IsFace (mesh_of self.now).cells axis place.i place.j place.k }
-        ensures number { result ≡ face_number (mesh_of self.now).cells axis place.i place.j place.k }
+        ensures number { result ≡
+            face_number (mesh_of self.now).cells axis place.i place.j place.k }
         ensures most { result ≤ 2 ^ 44 }
     {
         place_in_rows(

@@ -4,8 +4,8 @@ ghost use Rattle.tb_places.specs.Places.{second, third, along};
 
 use tb_places::AxisName;
 
-/// A cell, a node or a face across an axis, as it is seen along the axis: its index along that axis, and those along
-/// the other two in the order x, y, z.
+/// A cell, a node or a face across an axis, as it is seen along the axis: its index along that axis,
+/// and those along the other two in the order x, y, z.
 #[derive(Clone, Copy)]
 pub struct Site {
     pub axis: AxisName,
@@ -25,7 +25,8 @@ pub struct Place {
 impl Site {
     /// The same by its indexes along x, y and z.
     pub fn place(self) -> Place
-        ensures { result ≡ along self.axis (λ x y z. record { i = x; j = y; k = z }) self.i self.j self.k }
+        ensures { result ≡
+            along self.axis (λ x y z. record { i = x; j = y; k = z }) self.i self.j self.k }
     {
         let Site { axis, i, j, k } = self;
         match axis {

@@ -31,8 +31,8 @@ pub enum Quantity {
     Outflow,
 }
 
-/// A quantity of a field's node values or a flux's face values on a grid. A bit of the mask is set for each environment
-/// of the case.
+/// A quantity of a field's node values or a flux's face values on a grid. In the mask bit e is set
+/// where environment e is in the case.
 #[derive(Drop)]
 pub struct Summation<'a> {
     pub grid: &'a PlainGrid,
@@ -48,7 +48,8 @@ impl Summation<'_> {
         requires within { IsCellAt (mesh_under self.now).cells at }
         requires conductivity { IsConductivity lambda }
         ensures added { OnOk result (sum.new ≡ sum.old +ℤ solid_up self.now at (int (pos lambda))) }
-        ensures past_limit { OnErr result (pos (2 ^ 120) <ℤ (sum.old +ℤ solid_up self.now at (int (pos lambda)))) }
+        ensures past_limit { OnErr result
+            (pos (2 ^ 120) <ℤ (sum.old +ℤ solid_up self.now at (int (pos lambda)))) }
     {
         match self.quantity {
             Quantity::Energy => add(&field_cell(self.grid, self.values, at, lambda), sum),
@@ -102,8 +103,10 @@ impl Summation<'_> {
         requires summable { IsSummable self.now }
         requires within { IsFaceAt (mesh_under self.now).cells at }
         requires resistance { IsResistance rs }
-        ensures added { OnOk result (sum.new ≡ sum.old +ℤ surface_up self.now at environment rs low_is_air) }
-        ensures past_limit { OnErr result (pos (2 ^ 120) <ℤ (sum.old +ℤ surface_up self.now at environment rs low_is_air)) }
+        ensures added { OnOk result
+            (sum.new ≡ sum.old +ℤ surface_up self.now at environment rs low_is_air) }
+        ensures past_limit { OnErr result
+            (pos (2 ^ 120) <ℤ (sum.old +ℤ surface_up self.now at environment rs low_is_air)) }
     {
         match self.quantity {
             Quantity::Energy => add(
@@ -144,8 +147,10 @@ impl Summation<'_> {
         requires summable { IsSummable self.now }
         requires row { j < (mesh_under self.now).cells (second axis) }
         requires layer { k < (mesh_under self.now).cells (third axis) }
-        ensures added { OnOk result (sum.new ≡ sum.old +ℤ cells_up self.now axis j k ((mesh_under self.now).cells axis)) }
-        ensures past_limit { OnErr result (pos (2 ^ 120) <ℤ (sum.old +ℤ cells_up self.now axis j k ((mesh_under self.now).cells axis))) }
+        ensures added { OnOk result
+            (sum.new ≡ sum.old +ℤ cells_up self.now axis j k ((mesh_under self.now).cells axis)) }
+        ensures past_limit { OnErr result
+            (pos (2 ^ 120) <ℤ (sum.old +ℤ cells_up self.now axis j k ((mesh_under self.now).cells axis))) }
     {
         for i in 0..self.grid.cells(axis) {
             self.add_cell(Site { axis, i, j, k }, sum)?;
@@ -164,8 +169,10 @@ impl Summation<'_> {
         requires summable { IsSummable self.now }
         requires row { j < (mesh_under self.now).cells (second axis) }
         requires layer { k < (mesh_under self.now).cells (third axis) }
-        ensures added { OnOk result (sum.new ≡ sum.old +ℤ faces_up self.now axis j k (suc ((mesh_under self.now).cells axis))) }
-        ensures past_limit { OnErr result (pos (2 ^ 120) <ℤ (sum.old +ℤ faces_up self.now axis j k (suc ((mesh_under self.now).cells axis)))) }
+        ensures added { OnOk result
+            (sum.new ≡ sum.old +ℤ faces_up self.now axis j k (suc ((mesh_under self.now).cells axis))) }
+        ensures past_limit { OnErr result
+            (pos (2 ^ 120) <ℤ (sum.old +ℤ faces_up self.now axis j k (suc ((mesh_under self.now).cells axis)))) }
     {
         for i in 0..self.grid.cells(axis) + 1 {
             self.add_face(Site { axis, i, j, k }, sum)?;
@@ -184,7 +191,8 @@ impl Summation<'_> {
         requires row { j < (mesh_under self.now).cells (second axis) }
         requires layer { k < (mesh_under self.now).cells (third axis) }
         ensures added { OnOk result (sum.new ≡ sum.old +ℤ line_up self.now axis j k) }
-        ensures past_limit { OnErr result (pos (2 ^ 120) <ℤ (sum.old +ℤ line_up self.now axis j k)) }
+        ensures past_limit { OnErr result
+            (pos (2 ^ 120) <ℤ (sum.old +ℤ line_up self.now axis j k)) }
     {
         self.add_cells(axis, j, k, sum)?;
         self.add_faces(axis, j, k, sum)
@@ -194,8 +202,10 @@ impl Summation<'_> {
     fn add_lines(&self, axis: AxisName, k: usize, sum: &mut Sum<Up>) -> Result<(), PastLimit>
         requires summable { IsSummable self.now }
         requires layer { k < (mesh_under self.now).cells (third axis) }
-        ensures added { OnOk result (sum.new ≡ sum.old +ℤ lines_up self.now axis k ((mesh_under self.now).cells (second axis))) }
-        ensures past_limit { OnErr result (pos (2 ^ 120) <ℤ (sum.old +ℤ lines_up self.now axis k ((mesh_under self.now).cells (second axis)))) }
+        ensures added { OnOk result
+            (sum.new ≡ sum.old +ℤ lines_up self.now axis k ((mesh_under self.now).cells (second axis))) }
+        ensures past_limit { OnErr result
+            (pos (2 ^ 120) <ℤ (sum.old +ℤ lines_up self.now axis k ((mesh_under self.now).cells (second axis)))) }
     {
         for j in 0..self.grid.cells(second_axis(axis)) {
             self.add_line(axis, j, k, sum)?;
@@ -218,8 +228,10 @@ impl Summation<'_> {
     // Adds all that is summed.
     fn add_axes(&self, sum: &mut Sum<Up>) -> Result<(), PastLimit>
         requires summable { IsSummable self.now }
-        ensures added { OnOk result (sum.new ≡ sum.old +ℤ axis_up self.now X +ℤ axis_up self.now Y +ℤ axis_up self.now Z) }
-        ensures past_limit { OnErr result (pos (2 ^ 120) <ℤ (sum.old +ℤ axis_up self.now X +ℤ axis_up self.now Y +ℤ axis_up self.now Z)) }
+        ensures added { OnOk result
+            (sum.new ≡ sum.old +ℤ axis_up self.now X +ℤ axis_up self.now Y +ℤ axis_up self.now Z) }
+        ensures past_limit { OnErr result
+            (pos (2 ^ 120) <ℤ (sum.old +ℤ axis_up self.now X +ℤ axis_up self.now Y +ℤ axis_up self.now Z)) }
     {
         self.add_axis(AxisName::X, sum)?;
         self.add_axis(AxisName::Y, sum)?;
@@ -229,9 +241,11 @@ impl Summation<'_> {
     /// The sum of the terms, each rounded up. `PastLimit` exactly where it is above 2^120.
     pub fn total(&self) -> Result<i128, PastLimit>
         requires summable { IsSummable self.now }
-        ensures value { IfOk result (λ total. total ≡ rounded_up (mesh_under self.now) (terms_under self.now)) }
+        ensures value { IfOk result
+            (λ total. total ≡ rounded_up (mesh_under self.now) (terms_under self.now)) }
         ensures within { IfOk result (λ total. (pos 0 ≤ℤ total) × (total ≤ℤ pos (2 ^ 120))) }
-        ensures past_limit { IsErr result ↔ (pos (2 ^ 120) <ℤ rounded_up (mesh_under self.now) (terms_under self.now)) }
+        ensures past_limit { IsErr result ↔
+            (pos (2 ^ 120) <ℤ rounded_up (mesh_under self.now) (terms_under self.now)) }
     {
         let mut sum = Sum::<Up>::new();
         self.add_axes(&mut sum)?;

@@ -1,5 +1,6 @@
-// The ends of a wall and of a corner. The numbers were computed by a separate program with exact fractions, from the
-// formulas of the terms. A test first finds out whether its grid and its values are within limits.
+// The ends of a wall and of a corner. The numbers were computed by a separate program with exact
+// fractions, from the formulas of the terms: M of four differences by its 4×4 matrix (2,1;1,2)⊗(2,1;1,2).
+// A test first finds out whether its grid and its values are within limits.
 ghost use Rattle.std.specs.Prelude.{IsTrue, ◌≡◌, ◌≤◌, ◌<◌, ◌*◌, ◌+◌, ◌^◌, All, pos, ◌≤ℤ◌, unsigned_abs};
 ghost use Rattle.std.specs.List.Sorted.{IsStrictlyIncreasing};
 ghost use Rattle.tb_places.specs.Places.{node_count, face_count};
@@ -248,8 +249,8 @@ fn a_wall_cut_in_two(rt: HostRuntime) -> Result<(), Fail> {
     Ok(())
 }
 
-// Two arms of two materials round an inner corner, with two outer surfaces that differ, and a field and a flux with no
-// order in them.
+// Two arms of two materials round an inner corner, with two outer surfaces that differ. Node n has
+// the value 7919·(n+3)·(n+5), and face n has (104729·(n+2)·(n+7)) mod 2000001 − 1000000.
 #[test]
 fn a_corner(rt: HostRuntime) -> Result<(), Fail> {
     let boxes = [

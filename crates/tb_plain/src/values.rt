@@ -13,7 +13,8 @@ pub fn temperature(grid: &PlainGrid, temperatures: &[i64], at: Site) -> i64
     requires plain { IsPlain grid.now }
     requires limits { IsTemperatures (mesh_of grid.now).cells temperatures.now }
     requires within { IsNodeAt (mesh_of grid.now).cells at }
-    ensures value { result ≡ along at.axis (temperature_at (mesh_of grid.now).cells temperatures.now) at.i at.j at.k }
+    ensures value { result ≡
+        along at.axis (temperature_at (mesh_of grid.now).cells temperatures.now) at.i at.j at.k }
     ensures least { pos 0 ≤ℤ result }
     ensures most { result ≤ℤ pos (10 ^ 8) }
 {
@@ -25,7 +26,8 @@ pub fn flow(grid: &PlainGrid, flows: &[i64], at: Site) -> i64
     requires plain { IsPlain grid.now }
     requires limits { IsFlows (mesh_of grid.now).cells flows.now }
     requires within { IsFaceAt (mesh_of grid.now).cells at }
-    ensures value { result ≡ along at.axis (flow_at (mesh_of grid.now).cells flows.now at.axis) at.i at.j at.k }
+    ensures value { result ≡
+        along at.axis (flow_at (mesh_of grid.now).cells flows.now at.axis) at.i at.j at.k }
     ensures most { unsigned_abs result ≤ 10 ^ 12 }
 {
     flows[grid.face_number(at.axis, at.place())]
@@ -37,7 +39,8 @@ pub fn rise(grid: &PlainGrid, temperatures: &[i64], at: Site) -> i64
     requires limits { IsTemperatures (mesh_of grid.now).cells temperatures.now }
     requires low { IsNodeAt (mesh_of grid.now).cells at }
     requires high { suc at.i ≤ (mesh_of grid.now).cells at.axis }
-    ensures value { result ≡ along at.axis (temperature_at (mesh_of grid.now).cells temperatures.now) (suc at.i) at.j at.k -ℤ along at.axis (temperature_at (mesh_of grid.now).cells temperatures.now) at.i at.j at.k }
+    ensures value { result ≡
+        along at.axis (temperature_at (mesh_of grid.now).cells temperatures.now) (suc at.i) at.j at.k -ℤ along at.axis (temperature_at (mesh_of grid.now).cells temperatures.now) at.i at.j at.k }
     ensures most { unsigned_abs result ≤ 10 ^ 8 }
 {
     let next = Site { i: at.i + 1, ..at };

@@ -4,9 +4,14 @@
 //! memory that the run needs. `tell` writes it.
 #![tactic(auto)]
 
+mod check;
+mod form;
 mod status;
 mod telling;
+#[cfg(test)]
+mod tests;
 mod top;
+mod wall;
 
 pub use status::Status;
 pub use telling::Told;

@@ -1,16 +1,34 @@
 // What a run tells, and writing it.
 ghost use Rattle.std.specs.Prelude.{◌≡◌};
+ghost use Rattle.std.specs.List.{flat_map};
 ghost use Rattle.tb_outside.specs.Outside.{HasCause, Rose, Writes};
-ghost use Rattle.thermal_cli.specs.Outcome.{Tells, status_of, text_of};
+ghost use Rattle.thermal_cli.specs.Outcome.{Tells, ends_text, status_of, text_of};
 
 use crate::Status;
-use tb_outside::{Sink, SinkFault, put_all};
+use itoa::Buffer;
+use tb_numbers::fixed;
+use tb_outside::{OutputBuffer, Sink, SinkFault};
+use tb_sums::Interval;
 
 /// What a run tells.
 #[derive(Clone, Copy, Debug, PartialEq, Eq)]
 pub enum Told {
     /// The words have no reading.
     Usage,
+    /// Memory ran out.
+    NoMemory,
+    /// The source failed.
+    SourceFault,
+    /// The input is longer than the limit.
+    TooLong,
+    /// The input isn't a bundle that can be checked yet.
+    NotFormat,
+    /// The flux of the bundle isn't balanced in this cell, from which this much more flows than into it.
+    Unbalanced { cell: u32, sum: i128 },
+    /// The bundle claims other ends than those of its field and its flux.
+    IntervalDiffers { claimed: Interval, found: Interval },
+    /// The bundle has no fault.
+    Accepted(Interval),
 }
 
 fn status_told(told: Told) -> Status
@@ -18,7 +36,82 @@ fn status_told(told: Told) -> Status
 {
     match told {
         Told::Usage => Status::Usage,
+        Told::NoMemory => Status::NoMemory,
+        Told::SourceFault => Status::SourceFault,
+        Told::TooLong => Status::Refused,
+        Told::NotFormat => Status::CertificateRefused,
+        Told::Unbalanced { .. } => Status::CertificateRefused,
+        Told::IntervalDiffers { .. } => Status::CertificateRefused,
+        Told::Accepted(_) => Status::Fine,
     }
+}
+
+// Writes pieces one behind the other.
+fn put_text<K: Sink>(sink: &mut K, pieces: &[&[u8]]) -> Result<(), SinkFault>
+    ensures writes { Writes (K.holds sink.old) (K.holds sink.new) (flat_map (λ p. p.now) pieces.now) result }
+    ensures cause { HasCause (K.faults sink.old) (K.faults sink.new) result }
+{
+    let mut buffer = OutputBuffer::new();
+    buffer.put_pieces(sink, pieces)?;
+    buffer.flush(sink)
+}
+
+fn put_unbalanced<K: Sink>(sink: &mut K, cell: u32, sum: i128) -> Result<(), SinkFault>
+    ensures writes { Writes (K.holds sink.old) (K.holds sink.new) (text_of (Told.Unbalanced cell sum)) result }
+    ensures cause { HasCause (K.faults sink.old) (K.faults sink.new) result }
+{
+    let mut buffer = Buffer::new();
+    let number = buffer.format(cell).as_bytes();
+    let sum = fixed(sum, 0);
+    put_text(
+        sink,
+        &[
+            b"refused,Unbalanced,case 1 cell ",
+            number,
+            b" sum ",
+            sum.as_bytes(),
+            b"\n",
+        ],
+    )
+}
+
+fn put_differs<K: Sink>(sink: &mut K, claimed: Interval, found: Interval) -> Result<(), SinkFault>
+    ensures writes { Writes (K.holds sink.old) (K.holds sink.new) (text_of (Told.IntervalDiffers claimed found)) result }
+    ensures cause { HasCause (K.faults sink.old) (K.faults sink.new) result }
+{
+    let (claimed_lo, claimed_hi) = (fixed(claimed.lo, 0), fixed(claimed.hi, 0));
+    let (found_lo, found_hi) = (fixed(found.lo, 0), fixed(found.hi, 0));
+    put_text(
+        sink,
+        &[
+            b"refused,IntervalDiffers,case 1 claimed ",
+            claimed_lo.as_bytes(),
+            b" ",
+            claimed_hi.as_bytes(),
+            b" found ",
+            found_lo.as_bytes(),
+            b" ",
+            found_hi.as_bytes(),
+            b"\n",
+        ],
+    )
+}
+
+fn put_accepted<K: Sink>(sink: &mut K, interval: Interval) -> Result<(), SinkFault>
+    ensures writes { Writes (K.holds sink.old) (K.holds sink.new) (text_of (Told.Accepted interval)) result }
+    ensures cause { HasCause (K.faults sink.old) (K.faults sink.new) result }
+{
+    let (lo, hi) = (fixed(interval.lo, 0), fixed(interval.hi, 0));
+    put_text(
+        sink,
+        &[
+            b"accepted,inside,",
+            lo.as_bytes(),
+            b",",
+            hi.as_bytes(),
+            b"\nend\n",
+        ],
+    )
 }
 
 fn put_told<K: Sink>(sink: &mut K, told: Told) -> Result<(), SinkFault>
@@ -26,7 +119,14 @@ fn put_told<K: Sink>(sink: &mut K, told: Told) -> Result<(), SinkFault>
     ensures cause { HasCause (K.faults sink.old) (K.faults sink.new) result }
 {
     match told {
-        Told::Usage => put_all(sink, b"refused,Usage\n"),
+        Told::Usage => put_text(sink, &[b"refused,Usage\n"]),
+        Told::NoMemory => put_text(sink, &[b"refused,NoMemory\n"]),
+        Told::SourceFault => put_text(sink, &[b"refused,SourceFault\n"]),
+        Told::TooLong => put_text(sink, &[b"refused,TooLong\n"]),
+        Told::NotFormat => put_text(sink, &[b"refused,NotFormat,record 1\n"]),
+        Told::Unbalanced { cell, sum } => put_unbalanced(sink, cell, sum),
+        Told::IntervalDiffers { claimed, found } => put_differs(sink, claimed, found),
+        Told::Accepted(interval) => put_accepted(sink, interval),
     }
 }
 

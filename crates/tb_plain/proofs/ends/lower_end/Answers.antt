@@ -1,6 +1,6 @@
-use Rattle.std.proofs.Common.{◌∙◌, ◌≡◌, ◌^◌, ap, pos, ◌-ℤ◌, ◌<ℤ◌, refl, sym, ℤ}
+use Rattle.std.proofs.Common.{◌∙◌, ap, ◌-ℤ◌, refl, ℤ}
 use Rattle.tb_math.specs.Ceiling.{floor}
-use Rattle.tb_model.specs.Energy.{lower_end, rounded_up, flux_terms, source}
+use Rattle.tb_model.specs.Energy.{lower_end, source}
 use Rattle.tb_model.specs.Values.{case_of, flux_of}
 use Rattle.tb_plain.specs.Plain.{mesh_of}
 use Rattle.tb_plain.specs.Summation.{terms_under}

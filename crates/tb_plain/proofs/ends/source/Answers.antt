@@ -1,4 +1,4 @@
-use Rattle.std.proofs.Common.{◌∙◌, ◌≡◌, ◌^◌, ap, ◌*◌, pos, ◌-ℤ◌, ◌*ℤ◌, ◌≤ℤ◌, arith, sym, ℤ}
+use Rattle.std.proofs.Common.{◌∙◌, arith, sym}
 use Rattle.std.proofs.lemmas.Int.{ints}
 use Rattle.tb_model.specs.Values.{case_of}
 use Rattle.tb_plain.specs.Plain.{mesh_of}

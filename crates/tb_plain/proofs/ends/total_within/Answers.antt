@@ -1,4 +1,4 @@
-use Rattle.std.proofs.Common.{◌∙◌, ◌≡◌, ◌^◌, ap, pos, ◌≤ℤ◌, refl, subst, sym, ℤ}
+use Rattle.std.proofs.Common.{◌∙◌, pos, ◌≤ℤ◌, refl, subst, sym, ℤ}
 use Rattle.tb_model.specs.Energy.{rounded_up}
 use Rattle.tb_plain.specs.Summation.{greatest_sum, mesh_under, terms_under}
 use Rattle.tb_plain.proofs.Bounds.{whole_at_most}

@@ -1,4 +1,4 @@
-use Rattle.std.proofs.Common.{◌∙◌, ◌≡◌, ◌^◌, pos, ◌≤ℤ◌, arith}
+use Rattle.std.proofs.Common.{◌∙◌, arith}
 use Rattle.std.proofs.lemmas.Int.{ints}
 use Rattle.tb_model.specs.Energy.{upper_end}
 use Rattle.tb_plain.specs.Summation.{terms_under}

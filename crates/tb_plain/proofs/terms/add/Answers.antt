@@ -1,4 +1,3 @@
-use Rattle.std.specs.Prelude.{IsErr, Result}
 use Rattle.std.proofs.Common.{◌∙◌, ◌≡◌, ◌^◌, ap, pos, ◌+ℤ◌, ◌<ℤ◌, ℤ, subst}
 use Rattle.std.proofs.lemmas.Int.{to_z-of_z}
 use Rattle.std.specs.Int.{w128}

@@ -1,5 +1,4 @@
-use Rattle.std.specs.Prelude.{OnOk}
-use Rattle.std.proofs.Common.{◌∙◌, ◌≡◌, ◌^◌, ap, pos, ◌+ℤ◌, ◌<ℤ◌, ℤ, subst, sym}
+use Rattle.std.proofs.Common.{◌∙◌, ◌^◌, pos, ◌+ℤ◌, ◌<ℤ◌, ℤ, subst, sym}
 use Rattle.std.proofs.lemmas.Int.{to_z-of_z}
 use Rattle.std.specs.Int.{w64, w128}
 use Rattle.tb_plain.proofs.Arms.{above_zero, ok_along, over_one, part_of_positive}

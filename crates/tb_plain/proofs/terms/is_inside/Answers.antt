@@ -1,5 +1,4 @@
-use Rattle.std.proofs.Common.{◌∙◌, ◌≡◌, ◌≤◌, ◌<◌, ◌^◌, false, arith, ap}
-use Rattle.std.specs.Prelude.{nat_lt}
+use Rattle.std.proofs.Common.{◌∙◌, arith}
 use Rattle.tb_plain.proofs.Cases.{beyond, none_below}
 use Rattle.tb_plain.proofs.terms.is_inside.Goals as goal
 

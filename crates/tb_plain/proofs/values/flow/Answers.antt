@@ -1,4 +1,4 @@
-use Rattle.std.proofs.Common.{◌^◌, ◌<◌, ◌≤◌, arith, length, ◌*◌}
+use Rattle.std.proofs.Common.{arith}
 use Rattle.tb_places.proofs.Faces.{face_number_below}
 use Rattle.tb_plain.specs.Plain.{mesh_of}
 use Rattle.tb_plain.proofs.Sites.{face_at}

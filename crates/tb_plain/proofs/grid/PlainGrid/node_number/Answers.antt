@@ -1,7 +1,6 @@
 use Rattle.std.proofs.Common.{◌+◌, ◌*◌, ◌^◌, ◌≤◌, arith, ℕ}
 use Rattle.std.proofs.Math.Nat.{mul-le-mul}
 use Rattle.tb_places.specs.declared.AxisName.TheVariants.{Y, Z}
-use Rattle.tb_plain.specs.Plain.{mesh_of}
 use Rattle.tb_plain.proofs.Lines.{cells_most}
 use Rattle.tb_plain.proofs.grid.PlainGrid.node_number.Goals as goal
 

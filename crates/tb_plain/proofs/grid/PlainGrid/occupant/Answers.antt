@@ -1,4 +1,3 @@
-use Rattle.std.proofs.Common.{◌≡◌, ◌∙◌, ap}
 use Rattle.tb_places.specs.declared.AxisName.TheVariants.{X, Y, Z}
 use Rattle.tb_plain.specs.Plain.{mesh_of}
 use Rattle.tb_model.specs.Refinement.{scene_of}

@@ -1,6 +1,5 @@
-use Rattle.std.proofs.Common.{◌≡◌, ◌+◌, ◌-◌, ◌<◌, ◌≤◌, add-one, arith, get_or, length, List, ℕ, pos, suc}
-use Rattle.tb_math.specs.Rational.{int}
-use Rattle.tb_plain.specs.Plain.{lines_of, mesh_of}
+use Rattle.std.proofs.Common.{◌≡◌, ◌+◌, ◌<◌, ◌≤◌, add-one, arith, get_or, length, List, ℕ, suc}
+use Rattle.tb_plain.specs.Plain.{lines_of}
 use Rattle.tb_plain.proofs.Lines.{line_behind, line_near, width_is, width_positive}
 use Rattle.tb_plain.proofs.grid.PlainGrid.width.Goals as goal
 

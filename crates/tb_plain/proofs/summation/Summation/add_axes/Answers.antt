@@ -1,8 +1,7 @@
-use Rattle.std.proofs.Common.{◌≡◌, ◌^◌, arith, pos, ◌+ℤ◌, ◌<ℤ◌}
-use Rattle.std.proofs.lemmas.Int.{ints}
+use Rattle.std.proofs.Common.{◌^◌, pos, ◌+ℤ◌, ◌<ℤ◌}
 use Rattle.tb_places.specs.declared.AxisName.TheVariants.{X, Y, Z}
 use Rattle.tb_plain.specs.Summation.{axis_up}
-use Rattle.tb_plain.proofs.Totals.{axes_past_first, axes_past_second, on_err, on_err_map, on_ok}
+use Rattle.tb_plain.proofs.Totals.{axes_past_first, axes_past_second, on_err}
 use Rattle.tb_plain.proofs.summation.Summation.add_axes.Goals as goal
 
 pub returns-in_err-add_axis-clause-past_limit : goal.returns-in_err-add_axis-clause-past_limit

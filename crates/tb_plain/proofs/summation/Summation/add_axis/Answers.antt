@@ -1,4 +1,4 @@
-use Rattle.std.proofs.Common.{◌≡◌, ◌^◌, ◌<◌, ◌≤◌, ◌∙◌, ap, arith, pos, ◌+ℤ◌, ◌<ℤ◌, sym}
+use Rattle.std.proofs.Common.{◌≡◌, ◌^◌, ◌<◌, ◌∙◌, ap, arith, pos, ◌+ℤ◌, ◌<ℤ◌, sym}
 use Rattle.tb_places.specs.Places.{second, third}
 use Rattle.tb_plain.specs.Summation.{axis_up, layers_up, lines_up, mesh_under}
 use Rattle.tb_plain.proofs.Totals.{axis_done, layers_past, layers_start, layers_step, on_err, one_more, still_past}

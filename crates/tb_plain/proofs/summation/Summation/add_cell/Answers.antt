@@ -1,4 +1,4 @@
-use Rattle.std.proofs.Common.{◌≡◌, ◌∙◌, ◌^◌, ap, pos, Some, sym}
+use Rattle.std.proofs.Common.{◌∙◌, ◌^◌, ap, pos, Some, sym}
 use Rattle.tb_plain.proofs.Arms.{cell_air, cell_none, cell_solid, err_along, nothing, ok_along}
 use Rattle.tb_plain.proofs.summation.Summation.add_cell.Goals as goal
 

@@ -1,4 +1,4 @@
-use Rattle.std.proofs.Common.{◌≡◌, ◌^◌, ◌<◌, ◌∙◌, ap, arith, suc, pos, ◌+ℤ◌, ◌<ℤ◌, sym}
+use Rattle.std.proofs.Common.{◌^◌, ◌<◌, ◌∙◌, ap, arith, pos, ◌+ℤ◌, ◌<ℤ◌, sym}
 use Rattle.tb_plain.specs.Summation.{cell_up, cells_up, mesh_under}
 use Rattle.tb_plain.proofs.Totals.{cells_past, cells_start, cells_step, on_err, one_more, site, still_past}
 use Rattle.tb_plain.proofs.summation.Summation.add_cells.Goals as goal

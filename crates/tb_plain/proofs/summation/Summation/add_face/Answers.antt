@@ -1,4 +1,4 @@
-use Rattle.std.proofs.Common.{◌≡◌, ◌∙◌, ◌^◌, pos, sym}
+use Rattle.std.proofs.Common.{◌^◌, pos}
 use Rattle.tb_plain.proofs.Arms.{err_along, face_of_kind, face_shut, nothing, ok_along}
 use Rattle.tb_plain.proofs.summation.Summation.add_face.Goals as goal
 

@@ -1,4 +1,4 @@
-use Rattle.std.proofs.Common.{◌≡◌, ◌^◌, ◌<◌, ◌∙◌, ap, arith, suc, pos, ◌+ℤ◌, ◌<ℤ◌, sym}
+use Rattle.std.proofs.Common.{◌^◌, ◌<◌, ◌∙◌, ap, arith, suc, pos, ◌+ℤ◌, ◌<ℤ◌, sym}
 use Rattle.tb_plain.specs.Summation.{face_up, faces_up, mesh_under}
 use Rattle.tb_plain.proofs.Totals.{faces_past, faces_start, faces_step, on_err, one_more, site, still_past}
 use Rattle.tb_plain.proofs.summation.Summation.add_faces.Goals as goal

@@ -1,5 +1,5 @@
 use Rattle.std.proofs.Common.{◌≡◌, ◌^◌, pos, ◌+ℤ◌, ◌<ℤ◌, suc}
-use Rattle.tb_plain.specs.Summation.{cells_up, faces_up, line_up, mesh_under}
+use Rattle.tb_plain.specs.Summation.{faces_up, line_up, mesh_under}
 use Rattle.tb_plain.proofs.Totals.{line_done, line_past, line_past_cells, on_err, on_err_map, on_ok}
 use Rattle.tb_plain.proofs.summation.Summation.add_line.Goals as goal
 

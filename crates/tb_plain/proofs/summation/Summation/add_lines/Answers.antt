@@ -1,4 +1,4 @@
-use Rattle.std.proofs.Common.{◌≡◌, ◌^◌, ◌<◌, ◌∙◌, ap, arith, pos, ◌+ℤ◌, ◌<ℤ◌, sym}
+use Rattle.std.proofs.Common.{◌^◌, ◌<◌, ◌∙◌, ap, arith, pos, ◌+ℤ◌, ◌<ℤ◌, sym}
 use Rattle.tb_places.specs.Places.{second}
 use Rattle.tb_plain.specs.Summation.{line_up, lines_up, mesh_under}
 use Rattle.tb_plain.proofs.Totals.{lines_past, lines_start, lines_step, on_err, one_more, still_past}

@@ -1,6 +1,6 @@
-use Rattle.std.proofs.Common.{◌≡◌, ◌∙◌, ◌^◌, ap, pos, sym, subst}
+use Rattle.std.proofs.Common.{◌∙◌, ◌^◌, ap, pos, sym, subst}
 use Rattle.tb_math.specs.Ceiling.{ceiling}
-use Rattle.tb_plain.specs.declared.summation.Quantity.TheVariants.{Energy, Loss, Inflow, Outflow}
+use Rattle.tb_plain.specs.declared.summation.Quantity.TheVariants.{Loss}
 use Rattle.tb_sums.specs.declared.field.FieldCell.{FieldCell}
 use Rattle.tb_sums.specs.declared.flux.FluxCell.{FluxCell}
 use Rattle.tb_sums.specs.Terms.{FitsFieldCell, FitsFluxCell, field_cell_term, flux_cell_term}

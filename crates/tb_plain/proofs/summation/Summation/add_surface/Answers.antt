@@ -1,6 +1,6 @@
-use Rattle.std.proofs.Common.{◌≡◌, ◌∙◌, ◌^◌, ap, pos, neg_ℤ, ℤ, sym, subst}
+use Rattle.std.proofs.Common.{◌∙◌, ◌^◌, ap, pos, neg_ℤ, ℤ, sym, subst}
 use Rattle.tb_math.specs.Ceiling.{ceiling}
-use Rattle.tb_plain.specs.declared.summation.Quantity.TheVariants.{Energy, Loss, Inflow, Outflow}
+use Rattle.tb_plain.specs.declared.summation.Quantity.TheVariants.{Loss}
 use Rattle.tb_sums.specs.declared.field.FieldFace.{FieldFace}
 use Rattle.tb_sums.specs.declared.flux.FluxFace.{FluxFace}
 use Rattle.tb_sums.specs.Terms.{FitsFieldFace, FitsFluxFace, field_face_term, flux_face_term}

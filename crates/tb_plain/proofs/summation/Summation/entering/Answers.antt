@@ -1,4 +1,4 @@
-use Rattle.std.proofs.Common.{◌∙◌, ◌≡◌, ap, neg_ℤ, Bool, ℤ, sym, true, false}
+use Rattle.std.proofs.Common.{◌∙◌, ap, neg_ℤ, Bool, sym}
 use Rattle.tb_plain.specs.Values.{entering}
 use Rattle.tb_plain.specs.Items.{flow_on}
 use Rattle.tb_plain.proofs.Arms.{inside, is_negated, is_stored, not_inside}

@@ -1,0 +1,10 @@
+pub mod Fields
+pub mod Runs
+pub mod WallBalance
+pub mod WallCells
+pub mod WallEnds
+pub mod WallGrid
+pub mod WallLimits
+pub mod WallSound
+pub mod WallTerms
+pub mod WallVerdict
