@@ -1,0 +1,9 @@
+pub mod Corners
+pub mod Few
+pub mod Lines
+pub mod Neighbours
+pub mod Rising
+pub mod Searches
+pub mod Through
+pub mod Volumes
+pub mod Within

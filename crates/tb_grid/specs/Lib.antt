@@ -1,0 +1,4 @@
+pub mod Axis
+pub mod Direction
+pub mod Grid
+pub mod Views

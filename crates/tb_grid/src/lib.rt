@@ -1,0 +1,25 @@
+//! Grids: the lines of three axes, and the cells, nodes, faces and edges between and on them.
+//!
+//! Lines stand at coordinates in 0.1 mm. Cells, nodes, faces and edges are numbered from 0 in the index
+//! orders of `tb_places`. [`Direction`] sees a cell along one axis, so that what is written and proved
+//! above holds for x, y and z at once.
+#![tactic(auto)]
+
+mod axis;
+mod counts;
+mod direction;
+mod grid;
+mod ids;
+pub mod laws;
+mod place;
+mod sides;
+#[cfg(test)]
+mod tests;
+
+pub use axis::{Axis, LinesFault, lines_through};
+pub use counts::CellCounts;
+pub use direction::{Direction, X, Y, Z};
+pub use grid::{Grid, TooManyCells};
+pub use ids::{CellId, EdgeId, FaceId, NodeId};
+pub use place::{GridFace, GridPlace, other_axes};
+pub use tb_places::AxisName;
