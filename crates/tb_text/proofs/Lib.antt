@@ -1,0 +1,10 @@
+pub mod Changed
+pub mod Fed
+pub mod Fields
+pub mod First
+pub mod Growth
+pub mod Holding
+pub mod Places
+pub mod Saying
+pub mod Selected
+pub mod Settled

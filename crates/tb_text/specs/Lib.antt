@@ -1,0 +1,9 @@
+pub mod Builders
+pub mod Details
+pub mod Drafts
+pub mod Kinds
+pub mod NameLists
+pub mod Names
+pub mod Progress
+pub mod Reading
+pub mod Records
