@@ -20,7 +20,7 @@ use Rattle.tb_numbers.specs.Texts.{fixed_text, fraction_text, padded}
 
 -- ---- the first point
 
-both : (a b : Bool) → (a && b) ≡ true → (a ≡ true) × (b ≡ true)
+pub both : (a b : Bool) → (a && b) ≡ true → (a ≡ true) × (b ≡ true)
 both true b h = (refl, h)
 both false b h = cc h
 
@@ -59,22 +59,22 @@ zeros_value zero ds = refl
 zeros_value (suc k) ds = zeros_value k ds
 
 -- digits that write m
-record Writes (ds : List ℕ) (m : ℕ) : Type 0 where
-  digits : all_ascii_digits ds ≡ true
-  some : 0 < length ds
-  worth : digits_value 10 ds ≡ m
+pub record Writes (ds : List ℕ) (m : ℕ) : Type 0 where
+  pub digits : all_ascii_digits ds ≡ true
+  pub some : 0 < length ds
+  pub worth : digits_value 10 ds ≡ m
 
-decimal_writes : (m : ℕ) → m < 10 ^ 64 → Writes (decimal m) m
+pub decimal_writes : (m : ℕ) → m < 10 ^ 64 → Writes (decimal m) m
 decimal_writes m h =
     let numeral = decimal_is_IsNumeral_wide m h in
     record { digits = own.from (decimal m) numeral.0.1; some = numeral.0.0; worth = numeral.1 }
 
-padded_length : (k n : ℕ) → n < 10 ^ suc k → n < 10 ^ 64 → length (padded (suc k) n) ≡ suc k
+pub padded_length : (k n : ℕ) → n < 10 ^ suc k → n < 10 ^ 64 → length (padded (suc k) n) ≡ suc k
 padded_length k n h small =
     let short : length (decimal n) ≤ suc k = length-decimal-le_wide (suc k) n (omega arith) h small in
     omega (arith, length-append (replicate (suc k - length (decimal n)) 48) (decimal n), length-replicate {A = ℕ} (suc k - length (decimal n)) 48)
 
-padded_writes : (k n : ℕ) → n < 10 ^ suc k → n < 10 ^ 64 → Writes (padded (suc k) n) n
+pub padded_writes : (k n : ℕ) → n < 10 ^ suc k → n < 10 ^ 64 → Writes (padded (suc k) n) n
 padded_writes k n h small =
     let w = decimal_writes n small in
     record {
@@ -85,33 +85,35 @@ padded_writes k n h small =
 
 -- ---- the parts
 
-whole_reads : (ds : List ℕ) (m : ℕ) → Writes ds m → decimal_reading 0 ds ≡ Some m
+pub whole_reads : (places m : ℕ) (ds : List ℕ) → Writes ds m → decimal_reading places ds ≡ Some (m * 10 ^ places)
 unfolding decimal_reading
-whole_reads ds m w =
-    let unit : m * 1 ≡ m = omega arith in
-    rw (point_nowhere ds w.digits, number_of ds w.some w.digits, w.worth, unit) refl
+whole_reads places m ds w = rw (point_nowhere ds w.digits, number_of ds w.some w.digits, w.worth) refl
 
-parts_read : (k m n : ℕ) (ds fs : List ℕ) → Writes ds m → Writes fs n → length fs ≡ suc k → decimal_reading (suc k) (ds ++ 46 ∷ fs) ≡ Some (m * 10 ^ suc k + n)
+-- a fraction of f in its own digits is f units of its last place
+pub parts_read : (places m f : ℕ) (ds fs : List ℕ) → Writes ds m → Writes fs f → length fs ≤ places
+    → decimal_reading places (ds ++ 46 ∷ fs) ≡ Some (m * 10 ^ places + f * 10 ^ (places - length fs))
 unfolding decimal_reading
-parts_read k m n ds fs w f e =
-    let fits : nat_le (suc k) (suc k) ≡ true = grind (arith, nat_tests) in
-    let none : suc k - suc k ≡ 0 = omega arith in
-    let unit : n * 1 ≡ n = omega arith in
-    rw (point_behind ds fs w.digits, take-append_seam, drop-append-add, number_of ds w.some w.digits, number_of fs f.some f.digits, e, fits, w.worth, f.worth, none, unit) refl
+parts_read places m f ds fs w v h =
+    let fits : nat_le (length fs) places ≡ true = grind (arith, nat_tests) in
+    rw (point_behind ds fs w.digits, take-append_seam, drop-append-add, number_of ds w.some w.digits, number_of fs v.some v.digits, fits, w.worth, v.worth) refl
 
 unsigned_reads : (places m : ℕ) → m < 10 ^ 64 → decimal_reading places (decimal (m / 10 ^ places) ++ fraction_text places (m % 10 ^ places)) ≡ Some m
-unsigned_reads zero m h = rw (div-one m, append-nil (decimal m)) (whole_reads (decimal m) m (decimal_writes m h))
+unsigned_reads zero m h =
+    let unit : m * 1 ≡ m = omega arith in
+    rw (div-one m, append-nil (decimal m)) (whole_reads 0 m (decimal m) (decimal_writes m h) ∙ ap Some unit)
 unsigned_reads (suc k) m h =
     let unit = ten_positive (suc k) in
     let whole : m / 10 ^ suc k < 10 ^ 64 = omega arith in
     let rest : m % 10 ^ suc k < 10 ^ suc k = omega arith in
     let small : m % 10 ^ suc k < 10 ^ 64 = omega arith in
-    let sum : m / 10 ^ suc k * 10 ^ suc k + m % 10 ^ suc k ≡ m = omega arith in
-    parts_read k (m / 10 ^ suc k) (m % 10 ^ suc k) (decimal (m / 10 ^ suc k)) (padded (suc k) (m % 10 ^ suc k)) (decimal_writes _ whole) (padded_writes k _ rest small) (padded_length k _ rest small) ∙ ap Some sum
+    let long = padded_length k (m % 10 ^ suc k) rest small in
+    let none : suc k - length (padded (suc k) (m % 10 ^ suc k)) ≡ 0 = omega arith in
+    let sum : m / 10 ^ suc k * 10 ^ suc k + m % 10 ^ suc k * 1 ≡ m = omega arith in
+    parts_read (suc k) _ _ _ _ (decimal_writes _ whole) (padded_writes k _ rest small) (omega arith) ∙ rw none (ap Some sum)
 
 -- ---- the sign
 
-starts_plain : (ds rest : List ℕ) → is_number ds ≡ true → starts_with_minus (ds ++ rest) ≡ false
+pub starts_plain : (ds rest : List ℕ) → is_number ds ≡ true → starts_with_minus (ds ++ rest) ≡ false
 starts_plain [] rest h = cc h
 starts_plain (c ∷ cs) rest h = unsigned_start (c ∷ cs) h
 

@@ -5,5 +5,6 @@ pub mod Padded
 pub mod Powers
 pub mod QuotientLaws
 pub mod ReadBack
+pub mod ShortTexts
 pub mod Signs
 pub mod Sums

@@ -129,6 +129,38 @@ fn texts(rt: HostRuntime) {
 }
 
 #[test]
+fn short_texts(rt: HostRuntime) {
+    for (value, places, want) in [
+        (2_001, 1, "200.1"),
+        (2_000, 1, "200"),
+        (5_000, 4, "0.5"),
+        (0, 4, "0"),
+        (7, 0, "7"),
+        (100_000_001, 8, "1.00000001"),
+        (u64::MAX, 8, "184467440737.09551615"),
+    ] {
+        assert!(rt; places <= 8);
+        assert_eq!(rt;
+            decimal(value, places).as_bytes(),
+            want.as_bytes(),
+            "{want}"
+        );
+    }
+    for (value, places, want) in [
+        (-1_500, 3, "-1.5"),
+        (40, 2, "0.4"),
+        (i64::MIN, 0, "-9223372036854775808"),
+    ] {
+        assert!(rt; places <= 8);
+        assert_eq!(rt;
+            signed_decimal(value, places).as_bytes(),
+            want.as_bytes(),
+            "{want}"
+        );
+    }
+}
+
+#[test]
 fn quotients(rt: HostRuntime) {
     let half = 85_070_591_730_234_615_865_843_651_857_942_052_863;
     for (n, d, up, down) in [

@@ -1,6 +1,6 @@
 // Writing numbers.
 ghost use Rattle.std.specs.Prelude.{◌≡◌, ◌+◌, ◌^◌, ◌<◌, ◌≤◌, [], ◌∷◌, ◌++◌, length, replicate};
-ghost use Rattle.tb_numbers.specs.Texts.{fixed_text, fraction_text, padded, sign};
+ghost use Rattle.tb_numbers.specs.Texts.{decimal_text, fixed_text, fraction_text, padded, short_fraction_text, sign, signed_decimal_text, without_trailing_zeros};
 
 use crate::power::power_of_ten;
 use itoa::Buffer;
@@ -30,6 +30,15 @@ impl NumberText {
         ensures short { length result.now ≤ 64 }
     {
         &self.bytes[..self.len]
+    }
+
+    fn empty() -> NumberText
+        ensures { result ≡ [] }
+    {
+        NumberText {
+            bytes: [b'0'; 64],
+            len: 0,
+        }
     }
 
     // A minus where the number is below 0. Bytes past the length don't count.
@@ -92,6 +101,46 @@ impl NumberText {
             self.append_padded(places, n);
         }
     }
+
+    // Appends a point and n in this many digits without the zeros at their end, or nothing where n is 0.
+    fn append_short_fraction(&mut self, places: u8, n: u64)
+        requires places { places ≤ 8 }
+        requires room { length self.old + 1 + places ≤ 64 }
+        requires below { n < 10 ^ places }
+        ensures { self.new ≡ self.old ++ short_fraction_text places n }
+    {
+        if n > 0 {
+            let mut fraction = NumberText::empty();
+            fraction.append_padded(places, n);
+            self.push(b'.');
+            self.append(without_trailing_zeros(fraction.as_bytes()));
+        }
+    }
+
+    #[tactic(auto, unfolding(crate::specs::Texts::decimal_text))]
+    fn append_decimal(&mut self, value: u64, places: u8)
+        requires places { places ≤ 8 }
+        requires room { length self.old ≤ 1 }
+        ensures { self.new ≡ self.old ++ decimal_text places value }
+    {
+        let unit = power_of_ten(places);
+        let mut buffer = Buffer::new();
+        self.append(buffer.format(value / unit).as_bytes());
+        self.append_short_fraction(places, value % unit);
+    }
+}
+
+// The digits before the zeros at their end.
+fn without_trailing_zeros(digits: &[u8]) -> &[u8]
+    ensures value { result.now ≡ without_trailing_zeros digits.now }
+    ensures no_longer { length result.now ≤ length digits.now }
+{
+    let zeros = digits
+        .iter()
+        .rev()
+        .take_while(|digit| **digit == b'0')
+        .count();
+    &digits[..digits.len() - zeros]
 }
 
 /// The text of a number that is given in units of its last place: a `-` where it is below 0, the
@@ -107,5 +156,27 @@ pub fn fixed(value: i128, places: u8) -> NumberText
     let mut text = NumberText::from_sign(value);
     text.append(buffer.format(size / unit).as_bytes());
     text.append_fraction(places, (size % unit) as u64);
+    text
+}
+
+/// The text of a number that is given in units of its last place, as short as it can be: the whole
+/// part, and where the fraction isn't 0 a point and its digits without zeros at the end.
+pub fn decimal(value: u64, places: u8) -> NumberText
+    requires { places ≤ 8 }
+    ensures { result ≡ decimal_text places value }
+{
+    let mut text = NumberText::empty();
+    text.append_decimal(value, places);
+    text
+}
+
+/// The same of a signed number, with a `-` before it where it is below 0.
+#[tactic(auto, unfolding(crate::specs::Texts::signed_decimal_text))]
+pub fn signed_decimal(value: i64, places: u8) -> NumberText
+    requires { places ≤ 8 }
+    ensures { result ≡ signed_decimal_text places value }
+{
+    let mut text = NumberText::from_sign(i128::from(value));
+    text.append_decimal(value.unsigned_abs(), places);
     text
 }
