@@ -10,12 +10,27 @@
 //! | given ψ | 10⁻⁶ W/(m·K) |
 //!
 //! A thing is named by its place in its list, counted from 0.
+//!
+//! The types hold any numbers. `specs/Limits.antt` says which details are within limits, and
+//! `Detail::in_limits` tells.
 #![tactic(auto)]
 
 ghost use Rattle.std.specs.Prelude.{nat_eq};
 ghost use Rattle.std.specs.Cmp.{partial_equiv_from_equiv};
 ghost use Rattle.std.specs.Cmp.Lexicographic.{lists_per, nat_list_eq_equiv, pointwise};
 
+mod limits;
+mod names;
+mod quantity;
+#[cfg(test)]
+mod tests;
+
+pub use limits::{
+    FLAT_HEIGHT, MOST_BOXES, MOST_ENVIRONMENTS, MOST_LAYERS, MOST_NAMES, MOST_PSI, MOST_SECTIONS,
+    MOST_TERMS,
+};
+pub use names::is_name;
+pub use quantity::Quantity;
 use std::marker::Model;
 
 /// A list inside a public type. Contracts see it as the list of its items.

@@ -1,0 +1,25 @@
+-- The least and the greatest number of each quantity, in its unit.
+use Rattle.std.specs.Prelude.{ℕ, ◌≤◌}
+use Rattle.tb_detail.specs.declared.quantity.Quantity.{Quantity}
+use Rattle.tb_detail.specs.declared.quantity.Quantity.TheVariants.{Length, Thickness, Conductivity, Resistance, Section, Area}
+
+abbrev pub least : Quantity → ℕ
+least Length = 0
+least Thickness = 1
+least Conductivity = 1
+least Resistance = 1
+least Section = 1
+least Area = 0
+
+abbrev pub most : Quantity → ℕ
+most Length = 500000
+most Thickness = 500000
+most Conductivity = 5000000
+most Resistance = 100000
+most Section = 1000000
+most Area = 100000000
+
+-- a number is in the range of its quantity
+pub record IsInRange (q : Quantity) (n : ℕ) : Type 0 where
+  pub low : least q ≤ n
+  pub high : n ≤ most q
