@@ -1,3 +1,4 @@
 pub mod Machine
-pub mod Turns
 pub mod OneRead
+pub mod Plain
+pub mod Turns
