@@ -3,11 +3,11 @@ use Rattle.std.proofs.Common.{◌≡◌, ℤ, pos, ◌-ℤ◌, sym, ap, subst, �
 use Rattle.std.proofs.lemmas.Int.{ints}
 use Rattle.tb_sums.specs.declared.Interval.{Interval}
 use Rattle.tb_model.specs.Faults.{IsFirstUnbalanced}
-use Rattle.thermal_cli.specs.declared.telling.Told.{Told}
-use Rattle.thermal_cli.specs.declared.telling.Told.TheVariants as told
+use Rattle.thermal_cli.specs.declared.telling.Answer.{Answer}
+use Rattle.thermal_cli.specs.declared.telling.Answer.TheVariants as answer
 use Rattle.thermal_cli.specs.declared.wall.Wall.{Wall}
 use Rattle.thermal_cli.specs.Limits.{IsInLimits}
-use Rattle.thermal_cli.specs.Outcome.{Compares, IsCertified, JudgesWall, claimed_by, found_for}
+use Rattle.thermal_cli.specs.Answers.{Compares, IsCertified, JudgesWall, claimed_by, found_for}
 use Rattle.thermal_cli.specs.Wall.{flux_in, mesh_of}
 use Rattle.thermal_cli.proofs.WallBalance.{wall_balanced, wall_unbalanced}
 use Rattle.thermal_cli.proofs.WallSound.{wall_sound}
@@ -21,15 +21,14 @@ equal_flows a b e = omega (arith, ints)
 no_excess : (a b : ℤ) → a ≡ b → b -ℤ a ≡ pos 0
 no_excess a b e = omega (arith, ints)
 
-pub wall_judged : (w : Wall) (t : Told) (claimed found : Interval) → IsInLimits w → w.flow_out -ℤ w.flow_in ≡ pos 0 → claimed ≡ claimed_by w → found ≡ found_for w → Compares claimed found t → JudgesWall w t
-wall_judged w told.Usage claimed found l e p q k = k
-wall_judged w told.NoMemory claimed found l e p q k = k
-wall_judged w told.SourceFault claimed found l e p q k = k
-wall_judged w told.TooLong claimed found l e p q k = k
-wall_judged w told.NotFormat claimed found l e p q k = k
-wall_judged w (told.Unbalanced cell sum) claimed found l e p q k = absurd k
-wall_judged w (told.IntervalDiffers c f) claimed found l e p q k = (wall_balanced w l (equal_flows w.flow_in w.flow_out e), k.0 ∙ p, k.1 ∙ q, λ s. k.2 (sym k.0 ∙ s ∙ k.1))
-wall_judged w (told.Accepted i) claimed found l e p q k =
+pub wall_judged : (w : Wall) (a : Answer) (claimed found : Interval) → IsInLimits w → w.flow_out -ℤ w.flow_in ≡ pos 0 → claimed ≡ claimed_by w → found ≡ found_for w → Compares claimed found a → JudgesWall w a
+wall_judged w answer.NotFormat claimed found l e p q k = absurd k
+wall_judged w (answer.FaultOfDetail f) claimed found l e p q k = absurd k
+wall_judged w answer.NotBuilt claimed found l e p q k = absurd k
+wall_judged w answer.NoParts claimed found l e p q k = absurd k
+wall_judged w (answer.Unbalanced cell sum) claimed found l e p q k = absurd k
+wall_judged w (answer.IntervalDiffers c f) claimed found l e p q k = (wall_balanced w l (equal_flows w.flow_in w.flow_out e), k.0 ∙ p, k.1 ∙ q, λ s. k.2 (sym k.0 ∙ s ∙ k.1))
+wall_judged w (answer.Accepted i) claimed found l e p q k =
     let b = equal_flows w.flow_in w.flow_out e in
     (wall_balanced w l b, k.0 ∙ p, k.1 ∙ q, subst (λ (j : Interval). IsCertified w j) (sym (k.1 ∙ q)) (wall_sound w l b))
 

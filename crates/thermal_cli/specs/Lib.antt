@@ -1,6 +1,9 @@
 pub mod Statuses
+pub mod Words
 pub mod Form
 pub mod Slots
 pub mod Wall
 pub mod Limits
+pub mod Texts
+pub mod Answers
 pub mod Outcome

@@ -2,10 +2,10 @@
 ghost use Rattle.std.specs.Prelude.{◌≡◌, ◌↔◌, [], ◌∷◌, IfOk, IfSome, IsTrue, pos, ◌-ℤ◌};
 ghost use Rattle.tb_records.specs.Records.{records_of};
 ghost use Rattle.thermal_cli.specs.Limits.{IsGridOf, IsInLimits};
-ghost use Rattle.thermal_cli.specs.Outcome.{Answers, Compares, JudgesWall};
+ghost use Rattle.thermal_cli.specs.Answers.{Compares, Judges, JudgesWall};
 ghost use Rattle.thermal_cli.specs.Wall.{boxes_of, detail_of, environments_of_walls, face_values_of, lower_end_of, materials_of_walls, span_of, upper_end_of, wall_spelt};
 
-use crate::Told;
+use crate::Answer;
 use crate::form::spelt_wall;
 use crate::wall::Wall;
 use std::alloc::Global;
@@ -178,40 +178,36 @@ fn is_same(claimed: Interval, found: Interval) -> bool
 }
 
 // What is said of the ends of a balanced wall.
-fn compare(claimed: Interval, found: Interval) -> Told
+fn compare(claimed: Interval, found: Interval) -> Answer
     ensures { Compares claimed found result }
 {
     if is_same(claimed, found) {
-        Told::Accepted(found)
+        Answer::Accepted(found)
     } else {
-        Told::IntervalDiffers { claimed, found }
+        Answer::IntervalDiffers { claimed, found }
     }
 }
 
 // What is said of a wall's bundle.
-fn judge(wall: &Wall, grid: &PlainGrid) -> Told
+fn judge(wall: &Wall, grid: &PlainGrid) -> Answer
     requires limits { IsInLimits wall.now }
     requires grid { IsGridOf wall.now grid.now }
     ensures { JudgesWall wall.now result }
 {
     let sum = excess(wall.flow_in, wall.flow_out);
     if !is_zero(sum) {
-        return Told::Unbalanced { cell: 1, sum };
+        return Answer::Unbalanced { cell: 1, sum };
     }
     compare(interval(wall.lo, wall.hi), ends(grid, wall))
 }
 
 /// What `check` says of the bytes of a bundle.
-pub fn check(alloc: Global, bytes: &[u8]) -> Told
-    ensures { Answers bytes.now result }
+pub fn check(alloc: Global, bytes: &[u8]) -> Result<Answer, NoMemory>
+    ensures { IfOk result (Judges bytes.now) }
 {
-    let wall = match wall_in(alloc, bytes) {
-        Ok(Some(wall)) => wall,
-        Ok(None) => return Told::NotFormat,
-        Err(NoMemory) => return Told::NoMemory,
+    let Some(wall) = wall_in(alloc, bytes)? else {
+        return Ok(Answer::NotFormat);
     };
-    match grid(alloc, &wall) {
-        Ok(grid) => judge(&wall, &grid),
-        Err(NoMemory) => Told::NoMemory,
-    }
+    let grid = grid(alloc, &wall)?;
+    Ok(judge(&wall, &grid))
 }

@@ -11,8 +11,11 @@ mod telling;
 #[cfg(test)]
 mod tests;
 mod top;
+mod uvalue;
 mod wall;
+mod words;
 
 pub use status::Status;
-pub use telling::Told;
+pub use telling::{Answer, Told};
 pub use top::run;
+pub use words::Command;

@@ -1,14 +1,35 @@
 // What a run tells, and writing it.
-ghost use Rattle.std.specs.Prelude.{◌≡◌};
+ghost use Rattle.std.specs.Prelude.{◌≡◌, ◌<◌};
 ghost use Rattle.std.specs.List.{flat_map};
 ghost use Rattle.tb_outside.specs.Outside.{HasCause, Rose, Writes};
-ghost use Rattle.thermal_cli.specs.Outcome.{Tells, ends_text, status_of, text_of};
+ghost use Rattle.thermal_cli.specs.Outcome.{Tells};
+ghost use Rattle.thermal_cli.specs.Texts.{answer_status, answer_text, ends_text, fault_name, fault_text, status_of, text_of};
 
 use crate::Status;
 use itoa::Buffer;
 use tb_numbers::fixed;
 use tb_outside::{OutputBuffer, Sink, SinkFault};
 use tb_sums::Interval;
+use tb_text::{DetailFault, DetailKind};
+
+/// What a command says of its input.
+#[derive(Clone, Copy, Debug, PartialEq, Eq)]
+pub enum Answer {
+    /// The input isn't a bundle that can be checked yet.
+    NotFormat,
+    /// The flux of the bundle isn't balanced in this cell, from which this much more flows than into it.
+    Unbalanced { cell: u32, sum: i128 },
+    /// The bundle claims other ends than those of its field and its flux.
+    IntervalDiffers { claimed: Interval, found: Interval },
+    /// The bundle has no fault.
+    Accepted(Interval),
+    /// The detail has this first fault.
+    FaultOfDetail(DetailFault),
+    /// The detail has parts, which can't be calculated yet.
+    NotBuilt,
+    /// The detail has no part.
+    NoParts,
+}
 
 /// What a run tells.
 #[derive(Clone, Copy, Debug, PartialEq, Eq)]
@@ -21,14 +42,22 @@ pub enum Told {
     SourceFault,
     /// The input is longer than the limit.
     TooLong,
-    /// The input isn't a bundle that can be checked yet.
-    NotFormat,
-    /// The flux of the bundle isn't balanced in this cell, from which this much more flows than into it.
-    Unbalanced { cell: u32, sum: i128 },
-    /// The bundle claims other ends than those of its field and its flux.
-    IntervalDiffers { claimed: Interval, found: Interval },
-    /// The bundle has no fault.
-    Accepted(Interval),
+    /// The input was read to its end.
+    Answered(Answer),
+}
+
+fn status_answered(answer: Answer) -> Status
+    ensures { result ≡ answer_status answer }
+{
+    match answer {
+        Answer::NotFormat => Status::CertificateRefused,
+        Answer::Unbalanced { .. } => Status::CertificateRefused,
+        Answer::IntervalDiffers { .. } => Status::CertificateRefused,
+        Answer::Accepted(_) => Status::Fine,
+        Answer::FaultOfDetail(_) => Status::Refused,
+        Answer::NotBuilt => Status::Refused,
+        Answer::NoParts => Status::Fine,
+    }
 }
 
 fn status_told(told: Told) -> Status
@@ -39,10 +68,27 @@ fn status_told(told: Told) -> Status
         Told::NoMemory => Status::NoMemory,
         Told::SourceFault => Status::SourceFault,
         Told::TooLong => Status::Refused,
-        Told::NotFormat => Status::CertificateRefused,
-        Told::Unbalanced { .. } => Status::CertificateRefused,
-        Told::IntervalDiffers { .. } => Status::CertificateRefused,
-        Told::Accepted(_) => Status::Fine,
+        Told::Answered(answer) => status_answered(answer),
+    }
+}
+
+fn name_of_fault(kind: DetailKind) -> &'static [u8]
+    ensures { result.now ≡ fault_name kind }
+{
+    match kind {
+        DetailKind::NotFormat => b"NotFormat",
+        DetailKind::UnknownKind => b"UnknownKind",
+        DetailKind::WrongDimension => b"WrongDimension",
+        DetailKind::FieldCount => b"FieldCount",
+        DetailKind::BadName => b"BadName",
+        DetailKind::NameTwice => b"NameTwice",
+        DetailKind::UnknownName => b"UnknownName",
+        DetailKind::SamePair => b"SamePair",
+        DetailKind::BadNumber => b"BadNumber",
+        DetailKind::OutOfRange => b"OutOfRange",
+        DetailKind::Reversed => b"Reversed",
+        DetailKind::TooMany => b"TooMany",
+        DetailKind::EmptyPart => b"EmptyPart",
     }
 }
 
@@ -57,7 +103,7 @@ fn put_text<K: Sink>(sink: &mut K, pieces: &[&[u8]]) -> Result<(), SinkFault>
 }
 
 fn put_unbalanced<K: Sink>(sink: &mut K, cell: u32, sum: i128) -> Result<(), SinkFault>
-    ensures writes { Writes (K.holds sink.old) (K.holds sink.new) (text_of (Told.Unbalanced cell sum)) result }
+    ensures writes { Writes (K.holds sink.old) (K.holds sink.new) (answer_text (Answer.Unbalanced cell sum)) result }
     ensures cause { HasCause (K.faults sink.old) (K.faults sink.new) result }
 {
     let mut buffer = Buffer::new();
@@ -76,7 +122,7 @@ fn put_unbalanced<K: Sink>(sink: &mut K, cell: u32, sum: i128) -> Result<(), Sin
 }
 
 fn put_differs<K: Sink>(sink: &mut K, claimed: Interval, found: Interval) -> Result<(), SinkFault>
-    ensures writes { Writes (K.holds sink.old) (K.holds sink.new) (text_of (Told.IntervalDiffers claimed found)) result }
+    ensures writes { Writes (K.holds sink.old) (K.holds sink.new) (answer_text (Answer.IntervalDiffers claimed found)) result }
     ensures cause { HasCause (K.faults sink.old) (K.faults sink.new) result }
 {
     let (claimed_lo, claimed_hi) = (fixed(claimed.lo, 0), fixed(claimed.hi, 0));
@@ -98,7 +144,7 @@ fn put_differs<K: Sink>(sink: &mut K, claimed: Interval, found: Interval) -> Res
 }
 
 fn put_accepted<K: Sink>(sink: &mut K, interval: Interval) -> Result<(), SinkFault>
-    ensures writes { Writes (K.holds sink.old) (K.holds sink.new) (text_of (Told.Accepted interval)) result }
+    ensures writes { Writes (K.holds sink.old) (K.holds sink.new) (answer_text (Answer.Accepted interval)) result }
     ensures cause { HasCause (K.faults sink.old) (K.faults sink.new) result }
 {
     let (lo, hi) = (fixed(interval.lo, 0), fixed(interval.hi, 0));
@@ -114,6 +160,76 @@ fn put_accepted<K: Sink>(sink: &mut K, interval: Interval) -> Result<(), SinkFau
     )
 }
 
+// A fault of a record as a whole.
+fn put_record_fault<K: Sink>(sink: &mut K, fault: DetailFault) -> Result<(), SinkFault>
+    requires { fault.field ≡ 0 }
+    ensures writes { Writes (K.holds sink.old) (K.holds sink.new) (fault_text fault) result }
+    ensures cause { HasCause (K.faults sink.old) (K.faults sink.new) result }
+{
+    let mut buffer = Buffer::new();
+    let number = buffer.format(fault.number).as_bytes();
+    put_text(
+        sink,
+        &[
+            b"refused,",
+            name_of_fault(fault.kind),
+            b",record ",
+            number,
+            b"\n",
+        ],
+    )
+}
+
+// A fault of a field.
+fn put_field_fault<K: Sink>(sink: &mut K, fault: DetailFault) -> Result<(), SinkFault>
+    requires { 0 < fault.field }
+    ensures writes { Writes (K.holds sink.old) (K.holds sink.new) (fault_text fault) result }
+    ensures cause { HasCause (K.faults sink.old) (K.faults sink.new) result }
+{
+    let mut buffer = Buffer::new();
+    let number = buffer.format(fault.number).as_bytes();
+    let mut buffer = Buffer::new();
+    let field = buffer.format(fault.field).as_bytes();
+    put_text(
+        sink,
+        &[
+            b"refused,",
+            name_of_fault(fault.kind),
+            b",record ",
+            number,
+            b" field ",
+            field,
+            b"\n",
+        ],
+    )
+}
+
+fn put_fault<K: Sink>(sink: &mut K, fault: DetailFault) -> Result<(), SinkFault>
+    ensures writes { Writes (K.holds sink.old) (K.holds sink.new) (fault_text fault) result }
+    ensures cause { HasCause (K.faults sink.old) (K.faults sink.new) result }
+{
+    if fault.field == 0 {
+        put_record_fault(sink, fault)
+    } else {
+        put_field_fault(sink, fault)
+    }
+}
+
+fn put_answer<K: Sink>(sink: &mut K, answer: Answer) -> Result<(), SinkFault>
+    ensures writes { Writes (K.holds sink.old) (K.holds sink.new) (answer_text answer) result }
+    ensures cause { HasCause (K.faults sink.old) (K.faults sink.new) result }
+{
+    match answer {
+        Answer::NotFormat => put_text(sink, &[b"refused,NotFormat,record 1\n"]),
+        Answer::Unbalanced { cell, sum } => put_unbalanced(sink, cell, sum),
+        Answer::IntervalDiffers { claimed, found } => put_differs(sink, claimed, found),
+        Answer::Accepted(interval) => put_accepted(sink, interval),
+        Answer::FaultOfDetail(fault) => put_fault(sink, fault),
+        Answer::NotBuilt => put_text(sink, &[b"refused,NotBuilt\n"]),
+        Answer::NoParts => put_text(sink, &[b"end\n"]),
+    }
+}
+
 fn put_told<K: Sink>(sink: &mut K, told: Told) -> Result<(), SinkFault>
     ensures writes { Writes (K.holds sink.old) (K.holds sink.new) (text_of told) result }
     ensures cause { HasCause (K.faults sink.old) (K.faults sink.new) result }
@@ -123,10 +239,7 @@ fn put_told<K: Sink>(sink: &mut K, told: Told) -> Result<(), SinkFault>
         Told::NoMemory => put_text(sink, &[b"refused,NoMemory\n"]),
         Told::SourceFault => put_text(sink, &[b"refused,SourceFault\n"]),
         Told::TooLong => put_text(sink, &[b"refused,TooLong\n"]),
-        Told::NotFormat => put_text(sink, &[b"refused,NotFormat,record 1\n"]),
-        Told::Unbalanced { cell, sum } => put_unbalanced(sink, cell, sum),
-        Told::IntervalDiffers { claimed, found } => put_differs(sink, claimed, found),
-        Told::Accepted(interval) => put_accepted(sink, interval),
+        Told::Answered(answer) => put_answer(sink, answer),
     }
 }
 

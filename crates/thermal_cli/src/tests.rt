@@ -60,13 +60,13 @@ fn words(alloc: Global, word: &str) -> Result<Vec<String>, AllocError> {
     Ok(words)
 }
 
-// What `check` answers to these bytes, and what it writes.
-fn checked(alloc: Global, bytes: Vec<u8>) -> Result<(Status, Vec<u8>), AllocError> {
+// What a command answers to these bytes, and what it writes.
+fn answered(alloc: Global, word: &str, bytes: Vec<u8>) -> Result<(Status, Vec<u8>), AllocError> {
     let mut source = SteadySource::new(bytes);
     let Ok(mut sink) = MemorySink::new(alloc, 1000, Vec::new(alloc)) else {
         return Err(AllocError);
     };
-    let words = words(alloc, "check")?;
+    let words = words(alloc, word)?;
     let status = run(alloc, words.as_slice(), &mut source, &mut sink);
     Ok((status, Vec::from_slice(alloc, sink.bytes())?))
 }
@@ -78,7 +78,7 @@ fn is_answered(
     status: Status,
     text: &[u8],
 ) -> Result<bool, AllocError> {
-    let (found, written) = checked(alloc, bundle(alloc, changes)?)?;
+    let (found, written) = answered(alloc, "check", bundle(alloc, changes)?)?;
     Ok(found == status && written.as_slice() == text)
 }
 
@@ -179,7 +179,7 @@ fn other_inputs_are_not_of_the_form(rt: HostRuntime) -> Result<(), Fail> {
     ];
     for change in changes {
         let bytes = bundle(rt.alloc(), &[change])?;
-        let (found, written) = checked(rt.alloc(), bytes)?;
+        let (found, written) = answered(rt.alloc(), "check", bytes)?;
         assert!(rt; found == Status::CertificateRefused);
         assert!(rt; written.as_slice() == NO_FORM);
     }
@@ -199,10 +199,65 @@ fn a_bundle_that_is_cut_is_not_of_the_form(rt: HostRuntime) -> Result<(), Fail> 
         whole.len().saturating_sub(2),
     ] {
         let cut = Vec::from_slice(rt.alloc(), whole.get(..length).unwrap_or(b""))?;
-        let (found, written) = checked(rt.alloc(), cut)?;
+        let (found, written) = answered(rt.alloc(), "check", cut)?;
         assert!(rt; found == Status::CertificateRefused);
         assert!(rt; written.as_slice() == NO_FORM);
     }
+    Ok(())
+}
+
+// The detail of the wall, with another conductivity, and with more records behind it.
+fn detail(alloc: Global, lambda: &[u8], more: &[u8]) -> Result<Vec<u8>, AllocError> {
+    let mut text = Vec::new(alloc);
+    text.extend_from_slice(b"detail,1,3\nenv,inside\nenv,outside\nmat,wall,")?;
+    text.extend_from_slice(lambda)?;
+    text.extend_from_slice(b"\nsolid,wall,0.1,200.1,0,1000,0,1000\n")?;
+    text.extend_from_slice(b"air,inside,0.13,0,0.1,0,1000,0,1000\n")?;
+    text.extend_from_slice(b"air,outside,0.04,200.1,200.2,0,1000,0,1000\n")?;
+    text.extend_from_slice(more)?;
+    Ok(text)
+}
+
+#[test]
+fn details_are_read(rt: HostRuntime) -> Result<(), Fail> {
+    let bad: &[u8] = b"refused,BadNumber,record 4 field 3\n";
+    let far: &[u8] = b"refused,OutOfRange,record 4 field 3\n";
+    let cases: [(&[u8], &[u8], Status, &[u8]); 10] = [
+        (b"1", b"", Status::Fine, b"end\n"),
+        (b"500", b"", Status::Fine, b"end\n"),
+        (b"0.00001", b"", Status::Refused, bad),
+        (b"1e3", b"", Status::Refused, bad),
+        (b"", b"", Status::Refused, bad),
+        (b"500.0001", b"", Status::Refused, far),
+        (b"0", b"", Status::Refused, far),
+        (
+            b"1",
+            b"solid,wall\n",
+            Status::Refused,
+            b"refused,FieldCount,record 8\n",
+        ),
+        (
+            b"1",
+            b"part,wall,0.13,0.04\nlayer,wall,200,wall\n",
+            Status::Refused,
+            b"refused,NotBuilt\n",
+        ),
+        (
+            b"1",
+            b"#\npart,wall,0.13,0.04\n",
+            Status::Refused,
+            b"refused,EmptyPart,record 9\n",
+        ),
+    ];
+    for (lambda, more, status, text) in cases {
+        let bytes = detail(rt.alloc(), lambda, more)?;
+        let (found, written) = answered(rt.alloc(), "uvalue", bytes)?;
+        assert!(rt; found == status);
+        assert!(rt; written.as_slice() == text);
+    }
+    let (found, written) = answered(rt.alloc(), "uvalue", Vec::new(rt.alloc()))?;
+    assert!(rt; found == Status::Refused);
+    assert!(rt; written.as_slice() == NO_FORM);
     Ok(())
 }
 
@@ -254,7 +309,7 @@ fn a_source_that_fails_is_told(rt: HostRuntime) -> Result<(), Fail> {
 
 #[test]
 fn other_words_have_no_reading(rt: HostRuntime) -> Result<(), Fail> {
-    for word in ["", "chec", "check ", "Check", "solve", "--help"] {
+    for word in ["", "chec", "check ", "Check", "uvalues", "solve", "--help"] {
         let mut source = SteadySource::new(bundle(rt.alloc(), &[])?);
         let Ok(mut sink) = MemorySink::new(rt.alloc(), 100, Vec::new(rt.alloc())) else {
             return Err(Fail::from(AllocError));

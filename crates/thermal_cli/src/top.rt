@@ -1,24 +1,31 @@
 // The top call.
-ghost use Rattle.std.specs.Prelude.{◌≡◌, ◌⊎◌, ◌+◌, ◌<◌, ◌≤◌, ℕ, List, IfSome, codes, false, length, map, string_bytes, true};
+ghost use Rattle.std.specs.Prelude.{◌≡◌, ◌⊎◌, ◌+◌, ◌<◌, ◌≤◌, ℕ, List, IfOk, IfSome, None, Some, codes, length, map, string_bytes};
 ghost use Rattle.tb_outside.specs.Outside.{Adds, Rose, TakesExactly};
-ghost use Rattle.thermal_cli.specs.Outcome.{CertifiesWall, IsInterrupted, IsOutcome, IsRead, Runs, TellsOf, WritesFrontOfOne, is_check};
+ghost use Rattle.thermal_cli.specs.Answers.{CertifiesWall, Says};
+ghost use Rattle.thermal_cli.specs.Outcome.{HasReading, IsAnswered, IsInterrupted, IsOutcome, IsRead, Runs, TellsOf, WritesFrontOfOne};
+ghost use Rattle.thermal_cli.specs.Words.{command_of};
+ghost use Rattle.thermal_cli.specs.declared.words.Command.{Command};
 
 use crate::check::check;
 use crate::telling::tell;
-use crate::{Status, Told};
+use crate::uvalue::uvalue;
+use crate::words::{Command, command_of};
+use crate::{Answer, Status, Told};
 use std::alloc::Global;
 use tb_outside::{InFault, Sink, Source, read_all};
+use tb_records::NoMemory;
 
 /// How many bytes an input may have.
 pub const INPUT_LIMIT: usize = 268_435_456;
 
-// The words are `check` alone.
-fn words_are_check(words: &[String]) -> bool
-    ensures { result ≡ is_check (map string_bytes words.now) }
+// What a command says of its input.
+fn answer(alloc: Global, command: Command, bytes: &[u8]) -> Result<Answer, NoMemory>
+    requires { length bytes.now ≤ INPUT_LIMIT }
+    ensures { IfOk result (Says command bytes.now) }
 {
-    match words {
-        [word] => word.as_str() == "check",
-        _ => false,
+    match command {
+        Command::Check => check(alloc, bytes),
+        Command::UValue => uvalue(alloc, bytes),
     }
 }
 
@@ -27,11 +34,14 @@ fn work<S: Source>(alloc: Global, words: &[String], source: &mut S) -> Told
     ensures { IsOutcome (map string_bytes words.now) (S.left source.old) (S.left source.new)
         (Rose (S.faults source.old) (S.faults source.new)) result }
 {
-    if !words_are_check(words) {
+    let Some(command) = command_of(words) else {
         return Told::Usage;
-    }
+    };
     match read_all(alloc, source, INPUT_LIMIT) {
-        Ok(bytes) => check(alloc, bytes.as_slice()),
+        Ok(bytes) => match answer(alloc, command, bytes.as_slice()) {
+            Ok(answer) => Told::Answered(answer),
+            Err(NoMemory) => Told::NoMemory,
+        },
         Err(InFault::SourceFault) => Told::SourceFault,
         Err(InFault::TooLong) => Told::TooLong,
         Err(InFault::NoMemory) => Told::NoMemory,
@@ -40,8 +50,10 @@ fn work<S: Source>(alloc: Global, words: &[String], source: &mut S) -> Told
 
 /// Runs the program on these words, which don't begin with the program's name.
 ///
-/// The one command is `check`. It reads a bundle from the source, and writes the interval that it certifies, or one
-/// line that says why it is refused (`docs/FORMATS.md`). All memory is taken before the first byte is written.
+/// `check` reads a bundle from the source, and writes the interval that it certifies. `uvalue` reads a detail, and
+/// writes the U-values of its parts; until they are calculated, a detail with parts is refused. Each is the only word.
+/// Where the input is refused, one line says why (`docs/FORMATS.md`). All memory is taken before the first byte is
+/// written.
 pub fn run<S: Source, K: Sink>(
     alloc: Global,
     words: &[String],
@@ -53,9 +65,9 @@ pub fn run<S: Source, K: Sink>(
         (Rose (S.faults source.old) (S.faults source.new)) (K.holds sink.old) (K.holds sink.new)
         (Rose (K.faults sink.old) (K.faults sink.new)) result }
 
-    // Usage comes exactly where the words aren't the one word `check`, and leaves the source untouched.
-    ensures usage { result ≡ Status.Usage → is_check (map string_bytes words.now) ≡ false }
-    ensures no_reading { is_check (map string_bytes words.now) ≡ false
+    // Usage comes exactly where the words name no command, and leaves the source untouched.
+    ensures usage { result ≡ Status.Usage → command_of (map string_bytes words.now) ≡ None }
+    ensures no_reading { command_of (map string_bytes words.now) ≡ None
         → ((result ≡ Status.Usage) ⊎ (result ≡ Status.SinkFault)) × (S.left source.new ≡ S.left source.old) }
 
     // A fault of the source or the sink has a cause, and memory may run out before anything is written.
@@ -67,22 +79,25 @@ pub fn run<S: Source, K: Sink>(
     ensures no_memory { result ≡ Status.NoMemory → Adds (K.holds sink.old) (K.holds sink.new) (codes "refused,NoMemory\n") }
 
     // TooLong comes exactly where the source holds more bytes than the limit, and takes one byte more.
-    ensures too_long { result ≡ Status.Refused → TakesExactly (S.left source.old) (S.left source.new) (INPUT_LIMIT + 1)
-        × Adds (K.holds sink.old) (K.holds sink.new) (codes "refused,TooLong\n") }
-    ensures too_long_exactly { IfSome (S.left source.old) (λ bytes. is_check (map string_bytes words.now) ≡ true
-        → INPUT_LIMIT < length bytes → IsInterrupted result ⊎ (result ≡ Status.Refused)) }
+    ensures refused { result ≡ Status.Refused → (TakesExactly (S.left source.old) (S.left source.new) (INPUT_LIMIT + 1)
+        × Adds (K.holds sink.old) (K.holds sink.new) (codes "refused,TooLong\n"))
+        ⊎ IsAnswered (map string_bytes words.now) (S.left source.old) (S.left source.new)
+        (K.holds sink.old) (K.holds sink.new) Status.Refused }
+    ensures too_long { IfSome (S.left source.old) (λ bytes. HasReading (map string_bytes words.now)
+        → INPUT_LIMIT < length bytes → IsInterrupted result
+        ⊎ ((result ≡ Status.Refused) × Adds (K.holds sink.old) (K.holds sink.new) (codes "refused,TooLong\n"))) }
 
-    // Any other input is read to its end, and gets exactly what `check` says of its bytes.
-    ensures accepted { result ≡ Status.Fine → (bytes : List ℕ)
-        × IsRead (S.left source.old) (S.left source.new) bytes
-        × TellsOf bytes (K.holds sink.old) (K.holds sink.new) Status.Fine }
-    ensures certified { result ≡ Status.Fine → (bytes : List ℕ)
-        × IsRead (S.left source.old) (S.left source.new) bytes × CertifiesWall bytes }
-    ensures certificate_refused { result ≡ Status.CertificateRefused → (bytes : List ℕ)
-        × IsRead (S.left source.old) (S.left source.new) bytes
-        × TellsOf bytes (K.holds sink.old) (K.holds sink.new) Status.CertificateRefused }
-    ensures answered { IfSome (S.left source.old) (λ bytes. is_check (map string_bytes words.now) ≡ true
-        → length bytes ≤ INPUT_LIMIT → IsInterrupted result ⊎ TellsOf bytes (K.holds sink.old) (K.holds sink.new) result) }
+    // Any other input is read to its end, and gets exactly what the command says of its bytes.
+    ensures answered { IfSome (S.left source.old) (λ bytes. (c : Command) → command_of (map string_bytes words.now) ≡ Some c
+        → length bytes ≤ INPUT_LIMIT → IsInterrupted result ⊎ TellsOf c bytes (K.holds sink.old) (K.holds sink.new) result) }
+    ensures fine { result ≡ Status.Fine → IsAnswered (map string_bytes words.now) (S.left source.old) (S.left source.new)
+        (K.holds sink.old) (K.holds sink.new) Status.Fine }
+    ensures certified { result ≡ Status.Fine → command_of (map string_bytes words.now) ≡ Some Command.Check
+        → (bytes : List ℕ) × IsRead (S.left source.old) (S.left source.new) bytes × CertifiesWall bytes }
+    ensures certificate_refused { result ≡ Status.CertificateRefused
+        → (command_of (map string_bytes words.now) ≡ Some Command.Check)
+        × IsAnswered (map string_bytes words.now) (S.left source.old) (S.left source.new)
+        (K.holds sink.old) (K.holds sink.new) Status.CertificateRefused }
 {
     let told = work(alloc, words, source);
     tell(sink, told)

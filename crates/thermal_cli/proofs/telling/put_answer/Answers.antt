@@ -1,6 +1,6 @@
 use Rattle.std.proofs.Common.{◌≡◌, rules, to_z, of_z}
 use mir.Syntax.{w128}
-use Rattle.thermal_cli.proofs.telling.put_told.Goals as goal
+use Rattle.thermal_cli.proofs.telling.put_answer.Goals as goal
 
 pub returns-in-Unbalanced-clause-writes : goal.returns-in-Unbalanced-clause-writes
 returns-in-Unbalanced-clause-writes g c =
