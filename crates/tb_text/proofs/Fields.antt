@@ -7,7 +7,8 @@ use Rattle.tb_text.specs.declared.fault.FieldFault.{FieldFault}
 use Rattle.tb_text.specs.declared.kinds.FieldRule.{FieldRule}
 use Rattle.tb_text.specs.declared.kinds.FieldRule.TheVariants.{Word}
 use Rattle.tb_text.specs.declared.values.FieldValue.{FieldValue}
-use Rattle.tb_text.specs.Names.{NamesByKind, Text}
+use Rattle.tb_detail.specs.Names.{Text}
+use Rattle.tb_text.specs.Names.{NamesByKind}
 use Rattle.tb_text.specs.Records.{Row, at_field, field_fault, field_faults, first_some, unless, value, values}
 
 -- the fields from a field on begin with it

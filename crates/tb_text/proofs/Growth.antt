@@ -18,7 +18,8 @@ use Rattle.tb_text.specs.declared.values.FieldValue.TheVariants.{Place}
 use Rattle.tb_text.specs.Details.{Entry, belonging, box_of, chi_of, chis_of, declared_by, detail_from, detail_of, dimension_of, entries, entry, environment_of, gathered, is_box, is_kind, layer_of, line_term_of, material_of, names_of, of_kind, part_of, parts_of, planar_term_of, psi_of, psis_of, same_kind, with_layers, with_lengths, with_terms}
 use Rattle.tb_text.specs.Drafts.{AreSettled, IsSettled, IsStrange, changed_at, longer, more_area, more_chis, more_layer, more_length, more_line, more_parts, more_psis, with_entry, with_if}
 use Rattle.tb_text.specs.Kinds.{declares}
-use Rattle.tb_text.specs.Names.{NamesByKind, Text, is_of_kind}
+use Rattle.tb_detail.specs.Names.{Text}
+use Rattle.tb_text.specs.Names.{NamesByKind, is_of_kind}
 use Rattle.tb_text.specs.Records.{Row, is_place, kind_of, place_in, text_at, value_at, values_as}
 use Rattle.tb_text.proofs.Selected.{gathered_changed, gathered_push, gathered_same, map_push, select_push}
 use Rattle.tb_text.proofs.Settled.{are_settled_push}

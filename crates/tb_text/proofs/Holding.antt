@@ -21,7 +21,8 @@ use Rattle.tb_text.specs.Details.{Entry, detail_from, detail_of, dimension_of, e
 use Rattle.tb_text.specs.Drafts.{AreSettled, Holds, HoldsRows, IsNewName, Takes, entry_of, longer, reading_behind, with_declared, with_entry, with_if, with_said}
 use Rattle.tb_text.specs.Kinds.{all_kinds, declares, fields, word}
 use Rattle.tb_text.specs.NameLists.{names_in, no_names}
-use Rattle.tb_text.specs.Names.{NamesByKind, Text, is_of_kind}
+use Rattle.tb_detail.specs.Names.{Text}
+use Rattle.tb_text.specs.Names.{NamesByKind, is_of_kind}
 use Rattle.tb_text.specs.Reading.{Numbered, fault_of, part_numbers, rows_of}
 use Rattle.tb_text.specs.Records.{Row, head_dimension, kind_fault, kind_of, record_fault, text_at, values, values_as}
 use Rattle.tb_text.proofs.Fields.{unless_err, unless_ok}

@@ -20,7 +20,8 @@ use Rattle.tb_text.specs.declared.values.FieldValue.TheVariants.{Nothing, Place}
 use Rattle.tb_text.specs.Details.{entry, same_kind}
 use Rattle.tb_text.specs.Drafts.{AreSettled, IsNewName, IsSettled, IsStrange, longer}
 use Rattle.tb_text.specs.Kinds.{declares, fields}
-use Rattle.tb_text.specs.Names.{NamesByKind, Text, is_name, name_count, place_of}
+use Rattle.tb_detail.specs.Names.{Text, is_name}
+use Rattle.tb_text.specs.Names.{NamesByKind, name_count, place_of}
 use Rattle.tb_text.specs.Records.{Row, at_field, fault_if, field_fault, field_faults, first_some, is_count, is_full, is_place, kind_fault, kind_of, name_fault, pair_fault, place_value, sections_of, text_at, use_fault, value, value_at, values, values_as}
 use Rattle.tb_text.proofs.Places.{place_within}
 

@@ -21,7 +21,8 @@ use Rattle.tb_text.specs.declared.kinds.NameKind.{NameKind}
 use Rattle.tb_text.specs.declared.values.FieldValue.{FieldValue}
 use Rattle.tb_text.specs.declared.values.FieldValue.TheVariants.{Number}
 use Rattle.tb_text.specs.Kinds.{declares}
-use Rattle.tb_text.specs.Names.{NamesByKind, Text, is_of_kind}
+use Rattle.tb_detail.specs.Names.{Text}
+use Rattle.tb_text.specs.Names.{NamesByKind, is_of_kind}
 use Rattle.tb_text.specs.Records.{Row, head_dimension, is_place, kind_of, number_in, place_in, signed_in, text_at, value_at, values_as}
 
 -- ---- names

@@ -22,7 +22,8 @@ use Rattle.tb_text.specs.declared.values.FieldValue.{FieldValue}
 use Rattle.tb_text.specs.Details.{Entry, box_of, chi_of, detail_of, dimension_of, entry, environment_of, head_of, is_box, is_kind, layer_of, line_term_of, material_of, names_of, part_of, place_at, planar_term_of, psi_of, same_kind}
 use Rattle.tb_text.specs.Kinds.{declares}
 use Rattle.tb_text.specs.NameLists.{names_in, with_name}
-use Rattle.tb_text.specs.Names.{NamesByKind, Text, place_of}
+use Rattle.tb_detail.specs.Names.{Text}
+use Rattle.tb_text.specs.Names.{NamesByKind, place_of}
 use Rattle.tb_text.specs.Reading.{Numbered, fault_of, part_numbers, rows_of}
 use Rattle.tb_text.specs.Records.{Row, is_place, kind_of, reading, text_at, value_at, values_as}
 

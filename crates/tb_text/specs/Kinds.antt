@@ -4,8 +4,8 @@ use Rattle.tb_text.specs.declared.kinds.RecordKind.{RecordKind}
 use Rattle.tb_text.specs.declared.kinds.RecordKind.TheVariants as kind
 use Rattle.tb_text.specs.declared.kinds.NameKind.{NameKind}
 use Rattle.tb_text.specs.declared.kinds.NameKind.TheVariants as name
-use Rattle.tb_text.specs.declared.kinds.Quantity.{Quantity}
-use Rattle.tb_text.specs.declared.kinds.Quantity.TheVariants as quantity
+use Rattle.tb_detail.specs.declared.quantity.Quantity.{Quantity}
+use Rattle.tb_detail.specs.declared.quantity.Quantity.TheVariants as quantity
 use Rattle.tb_text.specs.declared.kinds.FieldRule.{FieldRule}
 use Rattle.tb_text.specs.declared.kinds.FieldRule.TheVariants.{Word, Declares, Uses, UsesOther, Reads, ReadsAbove, ReadsPsi, ReadsPsiFrom}
 
@@ -70,7 +70,7 @@ is_allowed dimension kind.Area = dimension == 3
 is_allowed dimension kind.Line = dimension == 3
 is_allowed dimension _ = true
 
--- ---- numbers: decimal places, and the least and greatest in units of the last place
+-- the decimal places of a number, and so its unit
 
 abbrev pub places : Quantity → ℕ
 places quantity.Length = 1
@@ -79,19 +79,3 @@ places quantity.Conductivity = 4
 places quantity.Resistance = 4
 places quantity.Section = 0
 places quantity.Area = 4
-
-abbrev pub least : Quantity → ℕ
-least quantity.Length = 0
-least quantity.Thickness = 1
-least quantity.Conductivity = 1
-least quantity.Resistance = 1
-least quantity.Section = 1
-least quantity.Area = 0
-
-abbrev pub most : Quantity → ℕ
-most quantity.Length = 500000
-most quantity.Thickness = 500000
-most quantity.Conductivity = 5000000
-most quantity.Resistance = 100000
-most quantity.Section = 1000000
-most quantity.Area = 100000000

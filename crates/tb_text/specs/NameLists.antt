@@ -3,7 +3,8 @@ use Rattle.std.specs.Prelude.{[], ◌∷◌, ◌++◌}
 use Rattle.tb_text.specs.declared.kinds.NameKind.{NameKind}
 use Rattle.tb_text.specs.declared.kinds.NameKind.TheVariants as name
 use Rattle.tb_text.specs.declared.names.Names.{Names}
-use Rattle.tb_text.specs.Names.{NamesByKind, Text}
+use Rattle.tb_detail.specs.Names.{Text}
+use Rattle.tb_text.specs.Names.{NamesByKind}
 
 -- the names of a kind
 abbrev pub names_in : Names → NamesByKind

@@ -18,15 +18,17 @@ use Rattle.tb_text.specs.declared.fault.FieldFault.{FieldFault}
 use Rattle.tb_text.specs.declared.kinds.RecordKind.{RecordKind}
 use Rattle.tb_text.specs.declared.kinds.RecordKind.TheVariants as kind
 use Rattle.tb_text.specs.declared.kinds.NameKind.TheVariants as name
-use Rattle.tb_text.specs.declared.kinds.Quantity.{Quantity}
+use Rattle.tb_detail.specs.declared.quantity.Quantity.{Quantity}
 use Rattle.tb_text.specs.declared.kinds.FieldRule.{FieldRule}
 use Rattle.tb_text.specs.declared.kinds.FieldRule.TheVariants.{Word, Declares, Uses, UsesOther, Reads, ReadsAbove, ReadsPsi, ReadsPsiFrom}
 use Rattle.tb_text.specs.declared.records.Said.{Said}
 use Rattle.tb_text.specs.declared.records.Said.TheVariants as said
 use Rattle.tb_text.specs.declared.values.FieldValue.{FieldValue}
 use Rattle.tb_text.specs.declared.values.FieldValue.TheVariants.{Nothing, Place, Number, Signed}
-use Rattle.tb_text.specs.Kinds.{all_kinds, fields, is_allowed, least, most, places, word}
-use Rattle.tb_text.specs.Names.{NamesByKind, Text, is_name, name_count, place_of}
+use Rattle.tb_text.specs.Kinds.{all_kinds, fields, is_allowed, places, word}
+use Rattle.tb_detail.specs.Names.{Text, is_name}
+use Rattle.tb_detail.specs.Quantities.{least, most}
+use Rattle.tb_text.specs.Names.{NamesByKind, name_count, place_of}
 
 -- a record as a list of fields
 abbrev pub Row : Type 0

@@ -12,7 +12,10 @@ use tb_detail::{Detail, Items, Part};
 use tb_records::laws::records_are_few;
 use tb_records::{ByteRecord, NoMemory, Records};
 
-/// Builds a detail from its records, one after the other. It keeps no more than the detail.
+/// Builds a detail from its records, one after the other.
+///
+/// It keeps the detail so far, and the number of the record of each part. It keeps each name once more
+/// to look it up, at most 256.
 #[derive(Drop)]
 pub struct DetailBuilder {
     alloc: Global,

@@ -10,8 +10,8 @@ use crate::records::field;
 use crate::values::{FieldValue, Values};
 use std::alloc::Global;
 use tb_detail::{
-    ChiItem, Content, Environment, Items, Layer, LineTerm, Material, Name, Part, PlanarTerm,
-    PsiItem, SpaceBox, Span,
+    ChiItem, Content, Environment, FLAT_HEIGHT, Items, Layer, LineTerm, Material, Name, Part,
+    PlanarTerm, PsiItem, SpaceBox, Span,
 };
 use tb_records::{ByteRecord, NoMemory};
 
@@ -52,7 +52,7 @@ fn span_at(values: &Values, at: usize) -> Span
         y0: values.at(at + 2).number(),
         y1: values.at(at + 3).number(),
         z0: values.number_or(at + 4, 0),
-        z1: values.number_or(at + 5, 10_000),
+        z1: values.number_or(at + 5, FLAT_HEIGHT),
     }
 }
 

@@ -1,7 +1,9 @@
 // What each kind of record is: its word, its fields in order, how many there are, and the dimensions
 // in which it stands.
-ghost use Rattle.std.specs.Prelude.{◌≡◌, ◌^◌, ◌<◌, ◌≤◌, length};
-ghost use Rattle.tb_text.specs.Kinds.{all_kinds, declares, fields, is_allowed, least, most, places, word};
+ghost use Rattle.std.specs.Prelude.{◌≡◌, ◌≤◌, length};
+ghost use Rattle.tb_text.specs.Kinds.{all_kinds, declares, fields, is_allowed, places, word};
+
+use tb_detail::Quantity;
 
 /// A kind of record, behind the head of the detail.
 #[derive(Clone, Copy)]
@@ -27,23 +29,6 @@ pub enum NameKind {
     Part,
     Psi,
     Chi,
-}
-
-/// What an unsigned number measures.
-#[derive(Clone, Copy)]
-pub enum Quantity {
-    /// A coordinate or a length, in 0.1 mm.
-    Length,
-    /// A thickness, in 0.1 mm.
-    Thickness,
-    /// A thermal conductivity, in 10⁻⁴ W/(m·K).
-    Conductivity,
-    /// A surface resistance, in 10⁻⁴ m²K/W.
-    Resistance,
-    /// The area of a section, as a weight.
-    Section,
-    /// An area, in 10⁻⁴ m².
-    Area,
 }
 
 /// What a field is, and what it is compared with.
@@ -242,40 +227,14 @@ const LINE: [FieldRule; 5] = [
     FieldRule::Reads(Quantity::Length),
 ];
 
-impl Quantity {
-    /// The decimal places of such a number, and so its unit.
-    pub fn places(self) -> u8
-        ensures places { result ≡ places self }
-        ensures few { result ≤ 8 }
-    {
-        match self {
-            Quantity::Length | Quantity::Thickness => 1,
-            Quantity::Conductivity | Quantity::Resistance | Quantity::Area => 4,
-            Quantity::Section => 0,
-        }
-    }
-
-    /// The least such number, in units of its last place.
-    pub fn least(self) -> u64
-        ensures { result ≡ least self }
-    {
-        match self {
-            Quantity::Length | Quantity::Area => 0,
-            _ => 1,
-        }
-    }
-
-    /// The greatest such number, in units of its last place.
-    pub fn most(self) -> u64
-        ensures most { result ≡ most self }
-        ensures small { result < 2 ^ 32 }
-    {
-        match self {
-            Quantity::Length | Quantity::Thickness => 500_000,
-            Quantity::Conductivity => 5_000_000,
-            Quantity::Resistance => 100_000,
-            Quantity::Section => 1_000_000,
-            Quantity::Area => 100_000_000,
-        }
+// The decimal places of a number of a quantity, and so its unit.
+pub fn places(quantity: Quantity) -> u8
+    ensures places { result ≡ places quantity }
+    ensures few { result ≤ 8 }
+{
+    match quantity {
+        Quantity::Length | Quantity::Thickness => 1,
+        Quantity::Conductivity | Quantity::Resistance | Quantity::Area => 4,
+        Quantity::Section => 0,
     }
 }

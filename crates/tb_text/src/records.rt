@@ -1,19 +1,22 @@
 // What a record says, or its first fault, behind the names and the detail of the records before it.
 ghost use Rattle.std.specs.Prelude.{◌≡◌, ◌≤◌, length, map, Ok, Err};
-ghost use Rattle.std.specs.List.{find, list_all};
+ghost use Rattle.std.specs.List.{find};
 ghost use Rattle.std.specs.Str.{bytes_eq};
 ghost use Rattle.csv.specs.Records.{fields_of};
-ghost use Rattle.tb_text.specs.Names.{is_name, is_name_byte, name_count};
+ghost use Rattle.tb_text.specs.Names.{name_count};
 ghost use Rattle.tb_text.specs.NameLists.{names_in};
 ghost use Rattle.tb_text.specs.Kinds.{fields, word};
 ghost use Rattle.tb_text.specs.Records.{field_fault, field_faults, first_some, from_fault, above_fault, head_dimension, is_count, is_full, is_layer_count, kind_fault, kind_of, name_fault, number_reading, pair_fault, psi_reading, reading, sections_of, text_at, unless, value, values};
 ghost use Rattle.tb_text.specs.declared.values.FieldValue.TheVariants.{Nothing};
 
 use crate::fault::{DetailKind, FieldFault};
-use crate::kinds::{FieldRule, NameKind, Quantity, RecordKind};
+use crate::kinds::{FieldRule, NameKind, RecordKind, places};
 use crate::names::Names;
 use crate::values::{FieldValue, Values};
-use tb_detail::Detail;
+use tb_detail::{
+    Detail, MOST_BOXES, MOST_ENVIRONMENTS, MOST_LAYERS, MOST_NAMES, MOST_PSI, MOST_TERMS, Quantity,
+    is_name,
+};
 use tb_numbers::{NumberFault, parse_decimal, parse_signed};
 use tb_records::{ByteRecord, is_remark};
 
@@ -60,33 +63,13 @@ fn kind_of_word(kinds: &[RecordKind], text: &[u8]) -> Option<RecordKind>
     kinds.iter().copied().find(|kind| text == kind.word())
 }
 
-fn is_name(text: &[u8]) -> bool
-    ensures { result ≡ is_name text.now }
-{
-    1 <= text.len() && text.len() <= 32 && are_name_bytes(text)
-}
-
-fn are_name_bytes(text: &[u8]) -> bool
-    ensures { result ≡ list_all is_name_byte text.now }
-{
-    text.iter().all(|byte| is_name_byte(*byte))
-}
-
-#[tactic(auto, unfolding(crate::specs::Names::is_name_byte))]
-fn is_name_byte(byte: u8) -> bool
-    ensures { result ≡ is_name_byte byte }
-{
-    match byte {
-        b'a'..=b'z' | b'A'..=b'Z' | b'0'..=b'9' | b' ' | b'_' | b'-' | b'.' => true,
-        _ => false,
-    }
-}
-
 #[tactic(auto, unfolding(crate::specs::Records::number_reading))]
 fn read_number(quantity: Quantity, text: &[u8]) -> Result<u32, DetailKind>
     ensures { result ≡ number_reading quantity text.now }
 {
-    match parse_decimal(text, quantity.places(), quantity.least(), quantity.most()) {
+    let least = u64::from(quantity.least());
+    let most = u64::from(quantity.most());
+    match parse_decimal(text, places(quantity), least, most) {
         Ok(number) => Ok(number as u32),
         Err(NumberFault::BadNumber) => Err(DetailKind::BadNumber),
         Err(NumberFault::OutOfRange) => Err(DetailKind::OutOfRange),
@@ -97,7 +80,7 @@ fn read_number(quantity: Quantity, text: &[u8]) -> Result<u32, DetailKind>
 fn read_psi(text: &[u8]) -> Result<i64, DetailKind>
     ensures { result ≡ psi_reading text.now }
 {
-    match parse_signed(text, 6, 1_000_000_000) {
+    match parse_signed(text, 6, MOST_PSI) {
         Ok(number) => Ok(number),
         Err(NumberFault::BadNumber) => Err(DetailKind::BadNumber),
         Err(NumberFault::OutOfRange) => Err(DetailKind::OutOfRange),
@@ -224,25 +207,26 @@ fn is_full(names: &Names, detail: &Detail, kind: RecordKind, values: &Values) ->
 {
     let item = usize::from(values.at(1).place());
     match kind {
-        RecordKind::Environment => detail.environments.items.len() >= 4 || names.count() >= 256,
+        RecordKind::Environment => detail.environments.items.len() >= MOST_ENVIRONMENTS
+            || names.count() >= MOST_NAMES,
         RecordKind::Material | RecordKind::Part | RecordKind::Psi | RecordKind::Chi => {
-            names.count() >= 256
+            names.count() >= MOST_NAMES
         }
-        RecordKind::Solid | RecordKind::Air => detail.boxes.items.len() >= 512,
+        RecordKind::Solid | RecordKind::Air => detail.boxes.items.len() >= MOST_BOXES,
         RecordKind::Layer => match detail.parts.items.get(item) {
-            Some(part) => part.layers.items.len() >= 16,
+            Some(part) => part.layers.items.len() >= MOST_LAYERS,
             None => false,
         },
         RecordKind::Length => match detail.psis.items.get(item) {
-            Some(psi) => psi.lengths.items.len() >= 16,
+            Some(psi) => psi.lengths.items.len() >= MOST_TERMS,
             None => false,
         },
         RecordKind::Area => match detail.chis.items.get(item) {
-            Some(chi) => chi.areas.items.len() >= 16,
+            Some(chi) => chi.areas.items.len() >= MOST_TERMS,
             None => false,
         },
         RecordKind::Line => match detail.chis.items.get(item) {
-            Some(chi) => chi.lines.items.len() >= 16,
+            Some(chi) => chi.lines.items.len() >= MOST_TERMS,
             None => false,
         },
     }

@@ -6,13 +6,13 @@ use tb_detail::{Content, LineTerm, PlanarTerm, SpaceBox, Span};
 use tb_records::ByteRecord;
 
 // What a text begins with: four records in dimension 3 or 2, or six with a part and an item.
-const D3: &str = "detail,1,3;env,in;env,out;mat,m,1;";
+const SPACE: &str = "detail,1,3;env,in;env,out;mat,m,1;";
 
-const D2: &str = "detail,1,2;env,in;env,out;mat,m,1;";
+const FLAT: &str = "detail,1,2;env,in;env,out;mat,m,1;";
 
-const P3: &str = "detail,1,3;env,in;env,out;mat,m,1;part,p,0.13,0.04;chi,c,in,out;";
+const SPACE_PART: &str = "detail,1,3;env,in;env,out;mat,m,1;part,p,0.13,0.04;chi,c,in,out;";
 
-const P2: &str = "detail,1,2;env,in;env,out;mat,m,1;part,p,0.13,0.04;psi,s,in,out;";
+const FLAT_PART: &str = "detail,1,2;env,in;env,out;mat,m,1;part,p,0.13,0.04;psi,s,in,out;";
 
 // A beginning, the records behind it with a semicolon for the end of a line, and the answer: a fault with
 // its record and field, or that there is none.
@@ -24,118 +24,118 @@ const ANSWERS: &str = "\
 |env,in;detail,1,3;|NotFormat 1 0\n\
 |detail,1,3,x;walls;|NotFormat 1 0\n\
 |detail,1;|NotFormat 1 0\n\
-D3|detail,1,3;|UnknownKind 5 0\n\
-D3|walls,m;|UnknownKind 5 0\n\
-D3|solid ,m,0,1,0,1,0,1;|UnknownKind 5 0\n\
-D3|\"\";|UnknownKind 5 0\n\
-D3|#;Env,x;env,in;|UnknownKind 6 0\n\
-D3|psi,s,in,out;|WrongDimension 5 0\n\
-D2|chi,c,in,out;|WrongDimension 5 0\n\
-D2|line,c,1;|WrongDimension 5 0\n\
-D3|length,s,p,x;walls;|WrongDimension 5 0\n\
-D2|area,c,p,1;|WrongDimension 5 0\n\
-D3|env;|FieldCount 5 0\n\
-D3|mat,m,1,1;|FieldCount 5 0\n\
-D2|solid,m,0,1,0,1,0,1;|FieldCount 5 0\n\
-D3|solid,m,0,1,0,1;|FieldCount 5 0\n\
-D3|air,in,0.1,0,1,0,1,0;|FieldCount 5 0\n\
-D3|part,p,1;|FieldCount 5 0\n\
-D3|part,p,1,1,1,1,1,1,1;|FieldCount 5 0\n\
-D3|layer;|FieldCount 5 0\n\
-D3|layer,q,10;|FieldCount 5 0\n\
-D3|layer,q,1,m,m,m,m,m;|FieldCount 5 0\n\
-P3|layer,p,10,m,m;|FieldCount 7 0\n\
-P2|length,s,p;|FieldCount 7 0\n\
-P3|line,c,1,1;walls;|FieldCount 7 0\n\
-D3|env,;|BadName 5 2\n\
-D3|mat,a/b,1;|BadName 5 2\n\
-D3|mat,ä,1;|BadName 5 2\n\
-D3|env,aaaaaaaaaabbbbbbbbbbccccccccccddd;|BadName 5 2\n\
-D3|part,a:b,x,y;|BadName 5 2\n\
-D3|env,a\"b;env,in;|BadName 5 2\n\
-D3|env,in;|NameTwice 5 2\n\
-D3|mat,m,x;|NameTwice 5 2\n\
-P3|part,p,0.13,0.04;|NameTwice 7 2\n\
-P3|chi,c,in,in;|NameTwice 7 2\n\
-D3|env,\"in\";mat,m,1;|NameTwice 5 2\n\
-D3|solid,in,0,1,0,1,0,1;|UnknownName 5 2\n\
-D3|air,m,0.1,0,1,0,1,0,1;|UnknownName 5 2\n\
-P3|layer,p,10,x;|UnknownName 7 4\n\
-P3|layer,q,x,m;|UnknownName 7 2\n\
-P3|area,c,c,1;|UnknownName 7 3\n\
-P3|chi,d,in,nn;|UnknownName 7 4\n\
-D3|chi,d,x,y;walls;|UnknownName 5 3\n\
-P3|line,p,1,1,1;|UnknownName 7 2\n\
-D3|chi,c,in,in;|SamePair 5 4\n\
-D2|psi,s,out,out;|SamePair 5 4\n\
-D3|chi,c,in,in;env,in;|SamePair 5 4\n\
-D2|psi,s,in,\"in\";|SamePair 5 4\n\
-D3|mat,n,0.00001;|BadNumber 5 3\n\
-D3|mat,n,1e3;|BadNumber 5 3\n\
-D3|mat,n,;|BadNumber 5 3\n\
-D3|mat,n,-1;|BadNumber 5 3\n\
-D3|solid,m,0,1,0,1,0,1.05;|BadNumber 5 8\n\
-D3|solid,m,a,0,b,0,c,0;|BadNumber 5 3\n\
-D3|air,in,x,0,0,1,1,0,0;|BadNumber 5 3\n\
-P3|line,c,1,x,1;|BadNumber 7 4\n\
-P3|line,c,0.0000001,1,1;|BadNumber 7 3\n\
-P3|area,c,p,1.00001;walls;|BadNumber 7 4\n\
-D3|part,q,1,1,1.5;|BadNumber 5 5\n\
-D3|mat,n,500.0001;|OutOfRange 5 3\n\
-D3|mat,n,0;|OutOfRange 5 3\n\
-D3|solid,m,0,1,0,1,0,50000.1;|OutOfRange 5 8\n\
-D3|air,in,0,0,0,0,0,0,0;|OutOfRange 5 3\n\
-D3|air,in,10.0001,0,1,0,1,0,1;|OutOfRange 5 3\n\
-P3|layer,p,0,m;|OutOfRange 7 3\n\
-P3|layer,p,50000.1,m;|OutOfRange 7 3\n\
-D3|part,q,0.1,0.1,0;|OutOfRange 5 5\n\
-D3|part,q,0.1,0.1,1,1000001;|OutOfRange 5 6\n\
-P3|area,c,p,10000.0001;|OutOfRange 7 4\n\
-P3|line,c,-1000.000001,1,1;|OutOfRange 7 3\n\
-P3|line,c,1,1000.000001,1;|OutOfRange 7 4\n\
-P3|line,c,1,1,50000.1;walls;|OutOfRange 7 5\n\
-P2|length,s,p,50000.1;|OutOfRange 7 4\n\
-D3|solid,m,1,1,x,1,0,1;|Reversed 5 4\n\
-D3|solid,m,0,1,2,1,0,1;|Reversed 5 6\n\
-D3|solid,m,0,1,0,1,1,0.9;|Reversed 5 8\n\
-D3|air,in,0.1,0,1,5,5,0,1;|Reversed 5 7\n\
-D2|solid,m,3,2,1,0;|Reversed 5 4\n\
-P3|line,c,0.06,0.05,x;|Reversed 7 4\n\
-P3|line,c,-1,-2,1;walls;|Reversed 7 4\n\
-D3|env,a;env,b;env,c;|TooMany 7 0\n\
-D2|env,a;env,b;env,c;walls;|TooMany 7 0\n\
-D3|env,a;env,b;env,a;|NameTwice 7 2\n\
-D3|env,a;env,b;walls;env,c;|UnknownKind 7 0\n\
-D3|part,p,0.13,0.04;part,q,0.13,0.04;|EmptyPart 5 0\n\
-P3||EmptyPart 5 0\n\
-P3|layer,p,1,m;part,q,1,1;|EmptyPart 8 0\n\
-P3|part,q,1,1;# q;layer,p,10,m;|EmptyPart 7 0\n\
-P3|walls;|UnknownKind 7 0\n\
-D3|\"solid\",\"m\",\"0\",\"1\",0,1,0,x;|BadNumber 5 8\n\
-D3|env,a\r;env,in\r;|NameTwice 6 2\n\
-D3|# solid,x,1;walls;|UnknownKind 6 0\n\
-D3|\u{FEFF}env,a;|UnknownKind 5 0\n\
+space|detail,1,3;|UnknownKind 5 0\n\
+space|walls,m;|UnknownKind 5 0\n\
+space|solid ,m,0,1,0,1,0,1;|UnknownKind 5 0\n\
+space|\"\";|UnknownKind 5 0\n\
+space|#;Env,x;env,in;|UnknownKind 6 0\n\
+space|psi,s,in,out;|WrongDimension 5 0\n\
+flat|chi,c,in,out;|WrongDimension 5 0\n\
+flat|line,c,1;|WrongDimension 5 0\n\
+space|length,s,p,x;walls;|WrongDimension 5 0\n\
+flat|area,c,p,1;|WrongDimension 5 0\n\
+space|env;|FieldCount 5 0\n\
+space|mat,m,1,1;|FieldCount 5 0\n\
+flat|solid,m,0,1,0,1,0,1;|FieldCount 5 0\n\
+space|solid,m,0,1,0,1;|FieldCount 5 0\n\
+space|air,in,0.1,0,1,0,1,0;|FieldCount 5 0\n\
+space|part,p,1;|FieldCount 5 0\n\
+space|part,p,1,1,1,1,1,1,1;|FieldCount 5 0\n\
+space|layer;|FieldCount 5 0\n\
+space|layer,q,10;|FieldCount 5 0\n\
+space|layer,q,1,m,m,m,m,m;|FieldCount 5 0\n\
+space-part|layer,p,10,m,m;|FieldCount 7 0\n\
+flat-part|length,s,p;|FieldCount 7 0\n\
+space-part|line,c,1,1;walls;|FieldCount 7 0\n\
+space|env,;|BadName 5 2\n\
+space|mat,a/b,1;|BadName 5 2\n\
+space|mat,ä,1;|BadName 5 2\n\
+space|env,aaaaaaaaaabbbbbbbbbbccccccccccddd;|BadName 5 2\n\
+space|part,a:b,x,y;|BadName 5 2\n\
+space|env,a\"b;env,in;|BadName 5 2\n\
+space|env,in;|NameTwice 5 2\n\
+space|mat,m,x;|NameTwice 5 2\n\
+space-part|part,p,0.13,0.04;|NameTwice 7 2\n\
+space-part|chi,c,in,in;|NameTwice 7 2\n\
+space|env,\"in\";mat,m,1;|NameTwice 5 2\n\
+space|solid,in,0,1,0,1,0,1;|UnknownName 5 2\n\
+space|air,m,0.1,0,1,0,1,0,1;|UnknownName 5 2\n\
+space-part|layer,p,10,x;|UnknownName 7 4\n\
+space-part|layer,q,x,m;|UnknownName 7 2\n\
+space-part|area,c,c,1;|UnknownName 7 3\n\
+space-part|chi,d,in,nn;|UnknownName 7 4\n\
+space|chi,d,x,y;walls;|UnknownName 5 3\n\
+space-part|line,p,1,1,1;|UnknownName 7 2\n\
+space|chi,c,in,in;|SamePair 5 4\n\
+flat|psi,s,out,out;|SamePair 5 4\n\
+space|chi,c,in,in;env,in;|SamePair 5 4\n\
+flat|psi,s,in,\"in\";|SamePair 5 4\n\
+space|mat,n,0.00001;|BadNumber 5 3\n\
+space|mat,n,1e3;|BadNumber 5 3\n\
+space|mat,n,;|BadNumber 5 3\n\
+space|mat,n,-1;|BadNumber 5 3\n\
+space|solid,m,0,1,0,1,0,1.05;|BadNumber 5 8\n\
+space|solid,m,a,0,b,0,c,0;|BadNumber 5 3\n\
+space|air,in,x,0,0,1,1,0,0;|BadNumber 5 3\n\
+space-part|line,c,1,x,1;|BadNumber 7 4\n\
+space-part|line,c,0.0000001,1,1;|BadNumber 7 3\n\
+space-part|area,c,p,1.00001;walls;|BadNumber 7 4\n\
+space|part,q,1,1,1.5;|BadNumber 5 5\n\
+space|mat,n,500.0001;|OutOfRange 5 3\n\
+space|mat,n,0;|OutOfRange 5 3\n\
+space|solid,m,0,1,0,1,0,50000.1;|OutOfRange 5 8\n\
+space|air,in,0,0,0,0,0,0,0;|OutOfRange 5 3\n\
+space|air,in,10.0001,0,1,0,1,0,1;|OutOfRange 5 3\n\
+space-part|layer,p,0,m;|OutOfRange 7 3\n\
+space-part|layer,p,50000.1,m;|OutOfRange 7 3\n\
+space|part,q,0.1,0.1,0;|OutOfRange 5 5\n\
+space|part,q,0.1,0.1,1,1000001;|OutOfRange 5 6\n\
+space-part|area,c,p,10000.0001;|OutOfRange 7 4\n\
+space-part|line,c,-1000.000001,1,1;|OutOfRange 7 3\n\
+space-part|line,c,1,1000.000001,1;|OutOfRange 7 4\n\
+space-part|line,c,1,1,50000.1;walls;|OutOfRange 7 5\n\
+flat-part|length,s,p,50000.1;|OutOfRange 7 4\n\
+space|solid,m,1,1,x,1,0,1;|Reversed 5 4\n\
+space|solid,m,0,1,2,1,0,1;|Reversed 5 6\n\
+space|solid,m,0,1,0,1,1,0.9;|Reversed 5 8\n\
+space|air,in,0.1,0,1,5,5,0,1;|Reversed 5 7\n\
+flat|solid,m,3,2,1,0;|Reversed 5 4\n\
+space-part|line,c,0.06,0.05,x;|Reversed 7 4\n\
+space-part|line,c,-1,-2,1;walls;|Reversed 7 4\n\
+space|env,a;env,b;env,c;|TooMany 7 0\n\
+flat|env,a;env,b;env,c;walls;|TooMany 7 0\n\
+space|env,a;env,b;env,a;|NameTwice 7 2\n\
+space|env,a;env,b;walls;env,c;|UnknownKind 7 0\n\
+space|part,p,0.13,0.04;part,q,0.13,0.04;|EmptyPart 5 0\n\
+space-part||EmptyPart 5 0\n\
+space-part|layer,p,1,m;part,q,1,1;|EmptyPart 8 0\n\
+space-part|part,q,1,1;# q;layer,p,10,m;|EmptyPart 7 0\n\
+space-part|walls;|UnknownKind 7 0\n\
+space|\"solid\",\"m\",\"0\",\"1\",0,1,0,x;|BadNumber 5 8\n\
+space|env,a\r;env,in\r;|NameTwice 6 2\n\
+space|# solid,x,1;walls;|UnknownKind 6 0\n\
+space|\u{FEFF}env,a;|UnknownKind 5 0\n\
 |\u{FEFF}# remark\r;detail,1,3\r;|Ok\n\
-D3|#env,in;\"# quoted\",env,in;|Ok\n\
-D3|env,aaaaaaaaaabbbbbbbbbbccccccccccdd;|Ok\n\
-D3|env,C d_e-f.G0;mat,in,1;|Ok\n\
-D3|mat,n,500;|Ok\n\
-D3|mat,n,0.0001;|Ok\n\
-D3|solid,m,0,50000,0,0.1,0,1;|Ok\n\
-D3|air,in,10,0,1,0,1,0,1;air,in,0.0001,0,1,0,1,0,1;|Ok\n\
-D2|solid,m,0,1,0,1;air,in,0.13,0,1,0,1;|Ok\n\
-D3|part,q,1,1,1,1000000,1,1;layer,q,1,m,m,m,m;|Ok\n\
-P3|layer,p,0.1,m;area,c,p,10000;area,c,p,0;|Ok\n\
-P3|layer,p,50000,m;line,c,-1000,1000,0;line,c,1,1,50000;|Ok\n\
-P2|layer,p,1,m;length,s,p,0;length,s,p,50000;|Ok\n\
-D3|env,a;env,b;mat,a,1|Ok";
+space|#env,in;\"# quoted\",env,in;|Ok\n\
+space|env,aaaaaaaaaabbbbbbbbbbccccccccccdd;|Ok\n\
+space|env,C d_e-f.G0;mat,in,1;|Ok\n\
+space|mat,n,500;|Ok\n\
+space|mat,n,0.0001;|Ok\n\
+space|solid,m,0,50000,0,0.1,0,1;|Ok\n\
+space|air,in,10,0,1,0,1,0,1;air,in,0.0001,0,1,0,1,0,1;|Ok\n\
+flat|solid,m,0,1,0,1;air,in,0.13,0,1,0,1;|Ok\n\
+space|part,q,1,1,1,1000000,1,1;layer,q,1,m,m,m,m;|Ok\n\
+space-part|layer,p,0.1,m;area,c,p,10000;area,c,p,0;|Ok\n\
+space-part|layer,p,50000,m;line,c,-1000,1000,0;line,c,1,1,50000;|Ok\n\
+flat-part|layer,p,1,m;length,s,p,0;length,s,p,50000;|Ok\n\
+space|env,a;env,b;mat,a,1|Ok";
 
 fn beginning(name: &str) -> &'static str {
     match name {
-        "D3" => D3,
-        "D2" => D2,
-        "P3" => P3,
-        "P2" => P2,
+        "space" => SPACE,
+        "flat" => FLAT,
+        "space-part" => SPACE_PART,
+        "flat-part" => FLAT_PART,
         _ => "",
     }
 }
@@ -179,12 +179,12 @@ fn answers(rt: HostRuntime) -> Result<(), Fail> {
 
 // A beginning, a record that comes so many times, and the number of the one that is too many.
 const LIMITS: [(&str, &str, u32, Option<u32>); 6] = [
-    (D3, "solid,m,0,1,0,1,0,1;", 512, None),
-    (D3, "solid,m,0,1,0,1,0,1;", 513, Some(517)),
-    (P3, "layer,p,1,m;", 17, Some(23)),
-    (P2, "length,s,p,1;", 17, Some(23)),
-    (P3, "area,c,p,1;", 17, Some(23)),
-    (P3, "line,c,1,1,1;", 17, Some(23)),
+    (SPACE, "solid,m,0,1,0,1,0,1;", 512, None),
+    (SPACE, "solid,m,0,1,0,1,0,1;", 513, Some(517)),
+    (SPACE_PART, "layer,p,1,m;", 17, Some(23)),
+    (FLAT_PART, "length,s,p,1;", 17, Some(23)),
+    (SPACE_PART, "area,c,p,1;", 17, Some(23)),
+    (SPACE_PART, "line,c,1,1,1;", 17, Some(23)),
 ];
 
 fn too_many(number: u32) -> DetailRefusal {
@@ -217,7 +217,7 @@ fn limits(rt: HostRuntime) -> Result<(), Fail> {
 #[test]
 fn names_over_all_kinds(rt: HostRuntime) -> Result<(), Fail> {
     let mut text = Vec::new(rt.alloc());
-    append(&mut text, D3)?;
+    append(&mut text, SPACE)?;
     for n in 0..254 {
         let record = format!(in rt.alloc(); "mat,{n},1\n")?;
         text.extend_from_slice(record.as_bytes())?;

@@ -11,14 +11,13 @@ use Rattle.thermal_cli.specs.declared.status.Status.{Status}
 use Rattle.thermal_cli.specs.declared.status.Status.TheVariants as status
 use Rattle.thermal_cli.specs.declared.telling.Answer.{Answer}
 use Rattle.thermal_cli.specs.declared.telling.Answer.TheVariants as answer
-use Rattle.thermal_cli.specs.declared.telling.Told.{Told}
 use Rattle.thermal_cli.specs.declared.telling.Told.TheVariants as told
 use Rattle.thermal_cli.specs.declared.top.TheConstants.{INPUT_LIMIT}
 use Rattle.thermal_cli.specs.declared.words.Command.{Command}
 use Rattle.thermal_cli.specs.declared.words.Command.TheVariants.{Check, UValue}
 use Rattle.thermal_cli.specs.Answers.{CertifiesWall, IsCertified, Judges, Says, uvalue_answer}
 use Rattle.thermal_cli.specs.Outcome.{HasReading, IsAnswered, IsInterrupted, IsRead, Runs, TellsOf, WritesFrontOfOne}
-use Rattle.thermal_cli.specs.Texts.{answer_status, answer_text, text_of}
+use Rattle.thermal_cli.specs.Texts.{answer_status}
 use Rattle.thermal_cli.specs.Words.{command_of}
 
 -- ---- the statuses of answers

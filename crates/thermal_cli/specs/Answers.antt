@@ -1,5 +1,5 @@
 -- What each command says of the bytes of its input.
-use Rattle.std.specs.Prelude.{◌≡◌, ◌≢◌, ◌==◌, ℕ, List, Option, Some, None, Result, Ok, Err, length, if◌then◌else◌}
+use Rattle.std.specs.Prelude.{◌≡◌, ◌≢◌, ◌==◌, ℕ, List, Some, None, Result, Ok, Err, length, if◌then◌else◌}
 use Rattle.tb_records.specs.Records.{records_of}
 use Rattle.tb_detail.specs.declared.Detail.{Detail}
 use Rattle.tb_text.specs.declared.fault.DetailFault.{DetailFault}
