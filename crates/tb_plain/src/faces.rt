@@ -48,8 +48,8 @@ impl PlainGrid {
         }
     }
 
-    /// The kind of a face.
-    pub(crate) fn kind(&self, at: Site) -> FaceKind
+    /// The kind of the face across an axis at a site.
+    pub fn kind(&self, at: Site) -> FaceKind
         requires plain { IsPlain self.now }
         requires within { IsFaceAt (mesh_of self.now).cells at }
         ensures value { result ≡ kind (mesh_of self.now) at.axis at.i at.j at.k }

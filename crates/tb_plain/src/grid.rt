@@ -27,7 +27,7 @@ pub struct PlainGrid {
 
 impl PlainGrid {
     // The lines along an axis.
-    fn lines(&self, axis: AxisName) -> &[u32]
+    pub(crate) fn lines(&self, axis: AxisName) -> &[u32]
         ensures { result.now ≡ lines_of self.now axis }
     {
         match axis {
@@ -90,8 +90,8 @@ impl PlainGrid {
         u64::from(lines[i]) + u64::from(lines[i + 1])
     }
 
-    /// What fills the cell at a place.
-    pub(crate) fn occupant(&self, place: Place) -> Option<Content>
+    /// What fills the cell at a place, nothing where it is in no box.
+    pub fn occupant(&self, place: Place) -> Option<Content>
         requires plain { IsPlain self.now }
         requires within { IsCell (mesh_of self.now).cells place.i place.j place.k }
         ensures value { result ≡ (mesh_of self.now).occupant place.i place.j place.k }

@@ -24,6 +24,7 @@
 mod ends;
 mod faces;
 mod grid;
+mod limits;
 mod numbers;
 mod site;
 mod summation;
@@ -34,3 +35,4 @@ mod values;
 
 pub use ends::{lower_end, upper_end};
 pub use grid::PlainGrid;
+pub use site::{Place, Site};

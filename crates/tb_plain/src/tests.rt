@@ -14,68 +14,6 @@ use std::test::Fail;
 use tb_detail::{Content, Detail, Items, Material, Name, SpaceBox, Span};
 use tb_places::AxisName;
 
-fn is_rising(lines: &[u32]) -> bool
-    ensures { IsTrue result → IsStrictlyIncreasing lines.now }
-{
-    for i in 1..lines.len() {
-        if lines[i - 1] >= lines[i] {
-            return false;
-        }
-    }
-    true
-}
-
-fn is_near(lines: &[u32]) -> bool
-    ensures { IsTrue result → All (λ p. p ≤ 500000) lines.now }
-{
-    lines.iter().all(|p| *p <= 500_000)
-}
-
-fn is_lines(lines: &[u32]) -> bool
-    ensures { IsTrue result → IsLines lines.now }
-{
-    lines.len() >= 2 && lines.len() <= 1024 && is_rising(lines) && is_near(lines)
-}
-
-fn are_conductive(materials: &[Material]) -> bool
-    ensures { IsTrue result → All (λ m. (0 < m.lambda) × (m.lambda ≤ 5000000)) materials.now }
-{
-    materials
-        .iter()
-        .all(|m| 0 < m.lambda && m.lambda <= 5_000_000)
-}
-
-fn is_known(materials: &[Material], content: Content) -> bool
-    ensures { IsTrue result → IsKnown materials.now content }
-{
-    match content {
-        Content::Solid { material } => usize::from(material) < materials.len(),
-        Content::Air { rs, .. } => 0 < rs && rs <= 100_000,
-    }
-}
-
-fn are_known(materials: &[Material], boxes: &[SpaceBox]) -> bool
-    ensures { IsTrue result → All (λ b. IsKnown materials.now b.content) boxes.now }
-{
-    for i in 0..boxes.len() {
-        if !is_known(materials, boxes[i].content) {
-            return false;
-        }
-    }
-    true
-}
-
-fn is_plain(grid: &PlainGrid) -> bool
-    ensures { IsTrue result → IsPlain grid.now }
-{
-    let materials = grid.detail.materials.items.as_slice();
-    are_conductive(materials)
-        && are_known(materials, grid.boxes())
-        && is_lines(grid.x.as_slice())
-        && is_lines(grid.y.as_slice())
-        && is_lines(grid.z.as_slice())
-}
-
 fn are_temperatures(values: &[i64]) -> bool
     ensures { IsTrue result → All (λ v. (pos 0 ≤ℤ v) × (v ≤ℤ pos (10 ^ 8))) values.now }
 {
@@ -113,7 +51,7 @@ fn expect(
     lo: i128,
     hi: i128,
 ) {
-    assert!(rt; is_plain(grid));
+    assert!(rt; grid.is_within_limits());
     assert_eq!(rt; temperatures.len(), node_count(grid));
     assert!(rt; are_temperatures(temperatures));
     assert_eq!(rt; flows.len(), face_count(grid));
