@@ -257,7 +257,7 @@ holds_more d given s number row h r = by s (subst (λ (names : NamesByKind). Say
     by (said.Record k vs) e = moved _ (same_kind kind.Part (Some k)) (ap (same_kind kind.Part) e.2) (with_kind d (rows_of given) (part_numbers given) number row k vs h e.1 e.2 e.3 e.4)
 
 -- the fault behind a draft is the fault behind the records that it holds
-fault_behind : (d : Draft) (given : List Numbered) (row : Row) → Holds d given → record_fault (names_in d.names) d.detail row ≡ fault_of (rows_of given) row
+pub fault_behind : (d : Draft) (given : List Numbered) (row : Row) → Holds d given → record_fault (names_in d.names) d.detail row ≡ fault_of (rows_of given) row
 fault_behind d given row h =
     ap (λ (names : NamesByKind). record_fault names d.detail row) h.names
     ∙ ap (λ (x : Detail). record_fault (names_of (rows_of given)) x row) h.detail

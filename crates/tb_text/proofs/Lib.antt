@@ -1,10 +1,16 @@
+pub mod Added
+pub mod AddedParts
 pub mod Changed
 pub mod Fed
 pub mod Fields
 pub mod First
 pub mod Growth
 pub mod Holding
+pub mod Kept
+pub mod Obeying
 pub mod Places
 pub mod Saying
 pub mod Selected
 pub mod Settled
+pub mod SoFar
+pub mod Within

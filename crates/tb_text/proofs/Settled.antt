@@ -19,7 +19,7 @@ use Rattle.tb_text.specs.declared.values.FieldValue.{FieldValue}
 use Rattle.tb_text.specs.declared.values.FieldValue.TheVariants.{Nothing, Place}
 use Rattle.tb_text.specs.Details.{entry, same_kind}
 use Rattle.tb_text.specs.Drafts.{AreSettled, IsNewName, IsSettled, IsStrange, longer}
-use Rattle.tb_text.specs.Kinds.{declares, fields}
+use Rattle.tb_text.specs.Kinds.{declares, fields, is_allowed}
 use Rattle.tb_detail.specs.Names.{Text, is_name}
 use Rattle.tb_text.specs.Names.{NamesByKind, name_count, place_of}
 use Rattle.tb_text.specs.Records.{Row, at_field, fault_if, field_fault, field_faults, first_some, is_count, is_full, is_place, kind_fault, kind_of, name_fault, pair_fault, place_value, sections_of, text_at, use_fault, value, value_at, values, values_as}
@@ -65,7 +65,7 @@ place_longer names more text i h =
 
 -- ---- values
 
-used : (place : Option ℕ) → use_fault place ≡ None → (i : ℕ) × (place ≡ Some i)
+pub used : (place : Option ℕ) → use_fault place ≡ None → (i : ℕ) × (place ≡ Some i)
 used None h = cc
 used (Some i) h = (i, refl)
 
@@ -112,6 +112,7 @@ not_not false h = cc
 
 -- what holds of a record of a kind that has no fault
 pub record IsSound (names : NamesByKind) (d : Detail) (k : RecordKind) (row : Row) : Type 0 where
+  pub allowed : is_allowed d.dimension k ≡ true
   pub count : is_count d.dimension (sections_of names d row) k (length row) ≡ true
   pub in_fields : first_some (field_faults names 1 Nothing (fields k) row) ≡ None
   pub room : is_full names d k (values names (fields k) row) ≡ false
@@ -122,16 +123,17 @@ sound names d k row h =
     let b = neither _ _ a.1 in
     let e = neither _ _ b.1 in
     record {
+      allowed = not_not _ (not_if _ fault.WrongDimension a.0);
       count = not_not _ (not_if _ fault.FieldCount b.0);
       in_fields = e.0;
       room = not_if _ fault.TooMany e.1;
     }
 
-both : (a b : Bool) → (a && b) ≡ true → (a ≡ true) × (b ≡ true)
+pub both : (a b : Bool) → (a && b) ≡ true → (a ≡ true) × (b ≡ true)
 both true b h = (refl, h)
 both false b h = cc
 
-neither_is : (a b : Bool) → (a || b) ≡ false → b ≡ false
+pub neither_is : (a b : Bool) → (a || b) ≡ false → b ≡ false
 neither_is true b h = cc
 neither_is false b h = h
 
@@ -177,11 +179,24 @@ name_is_new names text h = by (is_name text) (place_of names text) h
     by true (Some p) e = cc
     by false o e = cc
 
-declared_new : (names : NamesByKind) (k : NameKind) (rules : List FieldRule) (row : Row) → 2 ≤ length row → first_some (field_faults names 1 Nothing (Word ∷ Declares k ∷ rules) row) ≡ None → place_of (names k) (text_at row 1) ≡ None
+name_is_formed : (names : List Text) (text : Text) → name_fault names text ≡ None → is_name text ≡ true
+name_is_formed names text h = by (is_name text) h
+  where
+    by : (b : Bool) → (if b then option_map (λ place. fault.NameTwice) (place_of names text) else Some fault.BadName) ≡ None → b ≡ true
+    by true e = refl
+    by false e = cc
+
+declared_fault : (names : NamesByKind) (k : NameKind) (rules : List FieldRule) (row : Row) → 2 ≤ length row → first_some (field_faults names 1 Nothing (Word ∷ Declares k ∷ rules) row) ≡ None → name_fault (names k) (text_at row 1) ≡ None
 unfolding field_at
-declared_new names k rules [] l h = absurd (omega arith)
-declared_new names k rules (word ∷ []) l h = absurd (omega arith)
-declared_new names k rules (word ∷ text ∷ row) l h = name_is_new (names k) text (none_first 2 (name_fault (names k) text) (field_faults names 3 Nothing rules row) h).0
+declared_fault names k rules [] l h = absurd (omega arith)
+declared_fault names k rules (word ∷ []) l h = absurd (omega arith)
+declared_fault names k rules (word ∷ text ∷ row) l h = (none_first 2 (name_fault (names k) text) (field_faults names 3 Nothing rules row) h).0
+
+declared_new : (names : NamesByKind) (k : NameKind) (rules : List FieldRule) (row : Row) → 2 ≤ length row → first_some (field_faults names 1 Nothing (Word ∷ Declares k ∷ rules) row) ≡ None → place_of (names k) (text_at row 1) ≡ None
+declared_new names k rules row l h = name_is_new (names k) (text_at row 1) (declared_fault names k rules row l h)
+
+declared_formed : (names : NamesByKind) (k : NameKind) (rules : List FieldRule) (row : Row) → 2 ≤ length row → first_some (field_faults names 1 Nothing (Word ∷ Declares k ∷ rules) row) ≡ None → is_name (text_at row 1) ≡ true
+declared_formed names k rules row l h = name_is_formed (names k) (text_at row 1) (declared_fault names k rules row l h)
 
 few_names : (names : NamesByKind) (k : NameKind) → nat_le 256 (name_count names) ≡ false → length (names k) < 256
 few_names names name.Environment h = let l = leb-false 256 (name_count names) h in omega arith
@@ -202,6 +217,19 @@ new_name names d kind.Layer row s = tt
 new_name names d kind.Length row s = tt
 new_name names d kind.Area row s = tt
 new_name names d kind.Line row s = tt
+
+-- a name that is declared has the form of a name
+abbrev pub IsFormed : Option NameKind → Text → Type 0
+IsFormed None text = Unit {0}
+IsFormed (Some k) text = is_name text ≡ true
+
+pub new_formed : (names : NamesByKind) (d : Detail) (k : RecordKind) (row : Row) → IsSound names d k row → IsFormed (declares k) (text_at row 1)
+new_formed names d kind.Environment row s = declared_formed names name.Environment (others kind.Environment) row (two names d kind.Environment row s) s.in_fields
+new_formed names d kind.Material row s = declared_formed names name.Material (others kind.Material) row (two names d kind.Material row s) s.in_fields
+new_formed names d kind.Part row s = declared_formed names name.Part (others kind.Part) row (two names d kind.Part row s) s.in_fields
+new_formed names d kind.Psi row s = declared_formed names name.Psi (others kind.Psi) row (two names d kind.Psi row s) s.in_fields
+new_formed names d kind.Chi row s = declared_formed names name.Chi (others kind.Chi) row (two names d kind.Chi row s) s.in_fields
+new_formed names d _ row s = tt
 
 -- ---- the item to which a record belongs
 

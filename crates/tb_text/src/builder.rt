@@ -1,5 +1,6 @@
-ghost use Rattle.std.specs.Prelude.{◌≡◌, ◌++◌, ◌∷◌, ◌≤◌, [], List, IfSome, IsSome, Err, None, length, position, slice_index};
+ghost use Rattle.std.specs.Prelude.{◌≡◌, ◌++◌, ◌∷◌, ◌≤◌, [], List, IfOk, IfSome, IsSome, Err, None, length, position, slice_index};
 ghost use Rattle.csv.specs.Records.{fields_of};
+ghost use Rattle.tb_detail.specs.Limits.{InLimits};
 ghost use Rattle.tb_records.specs.Records.{records_of};
 ghost use Rattle.tb_text.specs.Builders.{Feeds, Stands, StandsAs, told_as, whole_fault_of};
 ghost use Rattle.tb_text.specs.Reading.{Answers, Numbered, detail_reading, first_record_fault, is_bare, numbered};
@@ -135,6 +136,7 @@ impl DetailBuilder {
     pub fn finish(self) -> Result<Detail, DetailRefusal>
         ensures detail { (given : List Numbered) → Stands self given
             → Answers result (detail_reading 1 given) }
+        ensures limits { (given : List Numbered) → Stands self given → IfOk result InLimits }
         ensures repeats { IfSome self.refusal (λ refusal. result ≡ Err refusal) }
     {
         if let Some(refusal) = self.refusal {
@@ -152,7 +154,8 @@ impl DetailBuilder {
 /// `Fault` with the first fault of its records, which are counted from 1, or of the whole detail.
 pub fn read_detail(alloc: Global, bytes: &[u8]) -> Result<Detail, DetailRefusal>
     requires { length bytes.now ≤ 268435456 }
-    ensures { Answers result (detail_reading 1 (numbered 1 (records_of bytes.now))) }
+    ensures detail { Answers result (detail_reading 1 (numbered 1 (records_of bytes.now))) }
+    ensures limits { IfOk result InLimits }
 {
     records_are_few();
     let mut left = Records::new(alloc, bytes);

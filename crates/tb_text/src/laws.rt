@@ -1,5 +1,7 @@
 // Laws of the reading of numbered records.
-ghost use Rattle.std.specs.Prelude.{◌≡◌, ◌++◌, ℕ, List, None, Some, Err};
+ghost use Rattle.std.specs.Prelude.{◌≡◌, ◌++◌, ℕ, List, None, Some, Ok, Err};
+ghost use Rattle.tb_detail.specs.Limits.{InLimits};
+ghost use Rattle.tb_detail.specs.declared.Detail.{Detail};
 ghost use Rattle.tb_text.specs.Details.{head_of};
 ghost use Rattle.tb_text.specs.Reading.{Numbered, detail_reading, first_record_fault, rows_of, whole_fault};
 ghost use Rattle.tb_text.specs.Records.{Row};
@@ -21,4 +23,10 @@ pub fn refusals_stay()
         → first_record_fault (given ++ more) ≡ Some fault }
     ensures refused { (number : ℕ) (given : List Numbered) (fault : DetailFault)
         → first_record_fault given ≡ Some fault → detail_reading number given ≡ Err fault }
+{}
+
+/// A detail that was read is within limits.
+pub fn read_details_are_in_limits()
+    ensures { (number : ℕ) (given : List Numbered) (detail : Detail) → detail_reading number given ≡ Ok detail
+        → InLimits detail }
 {}

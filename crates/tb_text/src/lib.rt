@@ -43,4 +43,4 @@ mod values;
 
 pub use builder::{DetailBuilder, read_detail};
 pub use fault::{DetailFault, DetailKind, DetailRefusal};
-pub use laws::{number_of_no_record, refusals_stay};
+pub use laws::{number_of_no_record, read_details_are_in_limits, refusals_stay};

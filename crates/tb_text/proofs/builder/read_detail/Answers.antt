@@ -22,8 +22,8 @@ loop-builder-preserved c =
       few = (let e = ap length next in let f = c.loop-builder.invariant.few in omega arith);
     }
 
-pub returns-in-Err-feed : goal.returns-in-Err-feed
-returns-in-Err-feed c =
+pub returns-in-Err-feed-clause-detail : goal.returns-in-Err-feed-clause-detail
+returns-in-Err-feed-clause-detail c =
     let row : Row = fields_of c.next.new.row in
     let next : row ∷ c.next.new.self ≡ c.loop-builder.left = found c.in-Ok-true.field-0 c.loop-builder.left c.next.new.self row c.in-Ok-true.field-0-test c.in-Ok-true.ensures.taken in
     refused_all c.feed.new.self (c.loop-builder.invariant.done ++ (c.loop-builder.number, row) ∷ []) (numbered (c.loop-builder.number + 1) c.next.new.self) (numbered 1 (records_of c.args.bytes.now)) c.in-Err-feed.refusal
