@@ -1,0 +1,9 @@
+pub mod Beside
+pub mod Ends
+pub mod Meshes
+pub mod NextCells
+pub mod Openings
+pub mod Sets
+pub mod Spreads
+pub mod Together
+pub mod Visits

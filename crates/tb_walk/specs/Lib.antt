@@ -1,0 +1,4 @@
+pub mod Paths
+pub mod Marks
+pub mod Isolated
+pub mod Spreading

@@ -1,0 +1,34 @@
+//! The laws of walks.
+//!
+//! Each law is the contract of a function that does nothing; the lemma behind a clause is in `proofs/`,
+//! where crates above cite it.
+
+ghost use Rattle.std.specs.Prelude.{◌≡◌, ◌↔◌, List, Bool};
+ghost use Rattle.tb_places.specs.Inverse.{Place};
+ghost use Rattle.tb_places.specs.Places.{Counts, IsCell};
+ghost use Rattle.tb_model.specs.Faults.{IsSolid};
+ghost use Rattle.tb_model.specs.Mesh.{Mesh};
+ghost use Rattle.tb_walk.specs.Marks.{AllReachOpenings, HasOpening, IsFirstWithoutOpening, IsMarked, IsWithoutOpening};
+ghost use Rattle.tb_walk.specs.Isolated.{HasSurface, IsFilled, IsFirstIsolated, IsIsolated, IsSolidCell, MarkSolids, NoneIsolated};
+
+/// Where flags mark the solid cells of a mesh without empty cells, the openings of the marked cells are the surfaces
+/// of the solid cells.
+pub fn openings_are_surfaces()
+    ensures opening { (n : Counts) (m : Mesh) (flags : List Bool) (p : Place) → MarkSolids n m flags → IsSolidCell m p
+        → HasOpening n flags p ↔ HasSurface m p }
+    ensures none { (n : Counts) (m : Mesh) (flags : List Bool) → MarkSolids n m flags
+        → AllReachOpenings n flags ↔ NoneIsolated m }
+    ensures first { (n : Counts) (m : Mesh) (flags : List Bool) (p : Place) → MarkSolids n m flags
+        → IsFirstWithoutOpening n flags p ↔ IsFirstIsolated m p }
+{}
+
+/// The cells of a grid hang together. So where a marked cell reaches no opening, all cells are marked; where a solid
+/// cell of a mesh without empty cells reaches no surface, there is no air, and the first such cell is that at the low
+/// corner.
+pub fn enclosed_cells_fill_the_grid()
+    ensures marked { (n : Counts) (flags : List Bool) (p q : Place) → IsWithoutOpening n flags p
+        → IsCell n q.i q.j q.k → IsMarked n flags q }
+    ensures solid { (m : Mesh) (p q : Place) → IsFilled m → IsIsolated m p
+        → IsCell m.cells q.i q.j q.k → IsSolid m q.i q.j q.k }
+    ensures first { (m : Mesh) (p : Place) → IsFilled m → IsFirstIsolated m p → p ≡ record { i = 0; j = 0; k = 0 } }
+{}
