@@ -1,0 +1,10 @@
+pub mod Base
+pub mod Bodies
+pub mod Cubes
+pub mod Faults
+pub mod Tests
+pub mod Steps
+pub mod Painting
+pub mod Volumes
+pub mod Seen
+pub mod Cases

@@ -1,0 +1,29 @@
+//! Bodies: the boxes of a detail, without a fault.
+//!
+//! [`Body::new`] judges a detail. A body that it accepts has at least two environments and a solid box, its
+//! boxes share no volume and leave none of their hull free, its base grid, which has a line at each box
+//! coordinate, isn't too large, and each solid part has a surface.
+#![tactic(auto)]
+
+mod base;
+mod body;
+mod boxes;
+mod case;
+mod cells;
+mod fault;
+#[cfg(test)]
+mod grid_tests;
+mod grids;
+mod holders;
+pub mod laws;
+mod linking;
+mod occupant;
+mod painting;
+#[cfg(test)]
+mod tests;
+
+pub use body::Body;
+pub use case::{Case, CaseList, cases};
+pub use fault::{BodyFault, BodyRefusal};
+pub use occupant::Occupant;
+pub use tb_model::FaceKind;

@@ -1,0 +1,53 @@
+// What fills the boxes of a body.
+ghost use Rattle.std.specs.Prelude.{◌≡◌, All, IfOk, IsTrue, map};
+ghost use Rattle.std.specs.List.{list_any};
+ghost use Rattle.tb_geometry.specs.Bodies.{IsFilled, occupant_of};
+ghost use Rattle.tb_geometry.specs.Tests.{is_solid};
+
+use crate::boxes::is_solid;
+use std::alloc::{AllocError, Global};
+use tb_detail::{Content, Detail, Items, Material, SpaceBox};
+
+/// What fills a box, and so its cells: a solid with its thermal conductivity in 10⁻⁴ W/(m·K), or the air of an
+/// environment, counted from 0, with the resistance of its surfaces in 10⁻⁴ m²K/W.
+#[derive(Clone, Copy, Debug, PartialEq, Eq)]
+pub enum Occupant {
+    Solid { lambda: u32 },
+    Air { environment: u8, rs: u32 },
+}
+
+// What fills a box.
+fn filling(materials: &[Material], b: &SpaceBox) -> Occupant
+    requires { IsFilled materials.now b.now }
+    ensures { result ≡ occupant_of materials.now b.now }
+{
+    match b.content {
+        Content::Solid { material } => Occupant::Solid {
+            lambda: materials[material as usize].lambda,
+        },
+        Content::Air { environment, rs } => Occupant::Air { environment, rs },
+    }
+}
+
+/// What fills each box.
+pub fn occupants(
+    alloc: Global,
+    materials: &[Material],
+    boxes: &[SpaceBox],
+) -> Result<Vec<Occupant>, AllocError>
+    requires { All (IsFilled materials.now) boxes.now }
+    ensures { IfOk result (λ all. all.items ≡ map (occupant_of materials.now) boxes.now) }
+{
+    let mut all = Vec::new(alloc);
+    for b in boxes {
+        all.push(filling(materials, b))?;
+    }
+    Ok(all)
+}
+
+/// Whether a box is solid.
+pub fn has_solid(boxes: &[SpaceBox]) -> bool
+    ensures { result ≡ list_any (λ b. is_solid b.content) boxes.now }
+{
+    boxes.iter().any(|b| is_solid(b))
+}
