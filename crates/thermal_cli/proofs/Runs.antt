@@ -14,8 +14,8 @@ use Rattle.thermal_cli.specs.declared.telling.Answer.TheVariants as answer
 use Rattle.thermal_cli.specs.declared.telling.Told.TheVariants as told
 use Rattle.thermal_cli.specs.declared.top.TheConstants.{INPUT_LIMIT}
 use Rattle.thermal_cli.specs.declared.words.Command.{Command}
-use Rattle.thermal_cli.specs.declared.words.Command.TheVariants.{Check, UValue}
-use Rattle.thermal_cli.specs.Answers.{CertifiesWall, IsCertified, Judges, Says, uvalue_answer}
+use Rattle.thermal_cli.specs.declared.words.Command.TheVariants.{Check, Solve, UValue}
+use Rattle.thermal_cli.specs.Answers.{CertifiesWall, IsCertified, Judges, Says, SolveAnswers, uvalue_answer}
 use Rattle.thermal_cli.specs.Outcome.{HasReading, IsAnswered, IsInterrupted, IsRead, Runs, TellsOf, WritesFrontOfOne}
 use Rattle.thermal_cli.specs.Texts.{answer_status}
 use Rattle.thermal_cli.specs.Words.{command_of}
@@ -31,6 +31,7 @@ status_answers (answer.Unbalanced cell sum) = inr (inr refl)
 status_answers (answer.IntervalDiffers claimed found) = inr (inr refl)
 status_answers (answer.Accepted interval) = inl refl
 status_answers (answer.FaultOfDetail f) = inr (inl refl)
+status_answers (answer.FaultOfBody f) = inr (inl refl)
 status_answers answer.NotBuilt = inr (inl refl)
 status_answers answer.NoParts = inl refl
 
@@ -64,9 +65,21 @@ uvalue_status : (r : Result Detail DetailFault) → (answer_status (uvalue_answe
 uvalue_status (Err f) e = cc e
 uvalue_status (Ok d) e = parts_status (length d.parts == 0) e
 
+solve_status : (r : Result Detail DetailFault) (a : Answer) → SolveAnswers r a → (answer_status a ≡ status.CertificateRefused) → ⊥
+solve_status (Err f) a h e = let s = ap answer_status h in cc (s, e)
+solve_status (Ok d) answer.NotFormat h e = absurd h
+solve_status (Ok d) (answer.Unbalanced cell sum) h e = absurd h
+solve_status (Ok d) (answer.IntervalDiffers claimed found) h e = absurd h
+solve_status (Ok d) (answer.Accepted interval) h e = absurd h
+solve_status (Ok d) (answer.FaultOfDetail f) h e = absurd h
+solve_status (Ok d) (answer.FaultOfBody f) h e = cc e
+solve_status (Ok d) answer.NotBuilt h e = cc e
+solve_status (Ok d) answer.NoParts h e = absurd h
+
 -- only `check` refuses a certificate
 judged_by_check : (c : Command) (bytes : List ℕ) (a : Answer) → Says c bytes a → status.CertificateRefused ≡ answer_status a → c ≡ Check
 judged_by_check Check bytes a h e = refl
+judged_by_check Solve bytes a h e = absurd (solve_status (detail_reading 1 (numbered 1 (records_of bytes))) a h (sym e))
 judged_by_check UValue bytes a h e = absurd (uvalue_status (detail_reading 1 (numbered 1 (records_of bytes))) (ap answer_status (sym h) ∙ sym e))
 
 -- an accepted bundle is a wall's, and its interval is sound on its grid
@@ -76,6 +89,7 @@ accepted_is_sound bytes (answer.Unbalanced cell sum) j e = cc e
 accepted_is_sound bytes (answer.IntervalDiffers claimed found) j e = cc e
 accepted_is_sound bytes (answer.Accepted interval) j e = (j.0, j.1, subst (λ (i : Interval). IsCertified j.0 i) j.2.1 j.2.3)
 accepted_is_sound bytes (answer.FaultOfDetail f) j e = cc e
+accepted_is_sound bytes (answer.FaultOfBody f) j e = cc e
 accepted_is_sound bytes answer.NotBuilt j e = cc e
 accepted_is_sound bytes answer.NoParts j e = absurd j.2
 

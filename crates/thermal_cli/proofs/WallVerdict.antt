@@ -24,6 +24,7 @@ no_excess a b e = omega (arith, ints)
 pub wall_judged : (w : Wall) (a : Answer) (claimed found : Interval) → IsInLimits w → w.flow_out -ℤ w.flow_in ≡ pos 0 → claimed ≡ claimed_by w → found ≡ found_for w → Compares claimed found a → JudgesWall w a
 wall_judged w answer.NotFormat claimed found l e p q k = absurd k
 wall_judged w (answer.FaultOfDetail f) claimed found l e p q k = absurd k
+wall_judged w (answer.FaultOfBody f) claimed found l e p q k = absurd k
 wall_judged w answer.NotBuilt claimed found l e p q k = absurd k
 wall_judged w answer.NoParts claimed found l e p q k = absurd k
 wall_judged w (answer.Unbalanced cell sum) claimed found l e p q k = absurd k

@@ -4,6 +4,7 @@ use Rattle.tb_records.specs.Records.{records_of}
 use Rattle.tb_detail.specs.declared.Detail.{Detail}
 use Rattle.tb_text.specs.declared.fault.DetailFault.{DetailFault}
 use Rattle.tb_text.specs.Reading.{detail_reading, numbered}
+use Rattle.tb_geometry.specs.Faults.{HasFault, IsAccepted}
 use Rattle.tb_sums.specs.declared.Interval.{Interval}
 use Rattle.tb_model.specs.Energy.{IsBalanced}
 use Rattle.tb_model.specs.Faults.{IsFirstUnbalanced}
@@ -13,7 +14,7 @@ use Rattle.thermal_cli.specs.declared.telling.Answer.{Answer}
 use Rattle.thermal_cli.specs.declared.telling.Answer.TheVariants as answer
 use Rattle.thermal_cli.specs.declared.wall.Wall.{Wall}
 use Rattle.thermal_cli.specs.declared.words.Command.{Command}
-use Rattle.thermal_cli.specs.declared.words.Command.TheVariants.{Check, UValue}
+use Rattle.thermal_cli.specs.declared.words.Command.TheVariants.{Check, Solve, UValue}
 use Rattle.thermal_cli.specs.Wall.{case_inside, detail_of, flux_in, grid_of, lower_end_of, mesh_of, upper_end_of, wall_spelt}
 
 -- ---- `check`, of a bundle
@@ -60,8 +61,18 @@ abbrev pub uvalue_answer : Result Detail DetailFault → Answer
 uvalue_answer (Err f) = answer.FaultOfDetail f
 uvalue_answer (Ok d) = if length d.parts == 0 then answer.NoParts else answer.NotBuilt
 
--- ---- both
+-- ---- `solve`, of a detail
+
+-- the first fault of the detail, else that of its body, else that it can't be solved yet
+abbrev pub SolveAnswers : Result Detail DetailFault → Answer → Type 0
+SolveAnswers (Err f) a = a ≡ answer.FaultOfDetail f
+SolveAnswers (Ok d) (answer.FaultOfBody f) = HasFault d f
+SolveAnswers (Ok d) answer.NotBuilt = IsAccepted d
+SolveAnswers (Ok d) _ = ⊥
+
+-- ---- every command
 
 abbrev pub Says : Command → List ℕ → Answer → Type 0
 Says Check bytes a = Judges bytes a
+Says Solve bytes a = SolveAnswers (detail_reading 1 (numbered 1 (records_of bytes))) a
 Says UValue bytes a = a ≡ uvalue_answer (detail_reading 1 (numbered 1 (records_of bytes)))

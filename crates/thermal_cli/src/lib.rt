@@ -6,6 +6,9 @@
 
 mod check;
 mod form;
+#[cfg(test)]
+mod grid_tests;
+mod solve;
 mod status;
 mod telling;
 #[cfg(test)]

@@ -1,13 +1,14 @@
 // What a run tells, and writing it.
-ghost use Rattle.std.specs.Prelude.{◌≡◌, ◌<◌};
+ghost use Rattle.std.specs.Prelude.{◌≡◌, ◌<◌, ◌++◌, codes};
 ghost use Rattle.std.specs.List.{flat_map};
 ghost use Rattle.tb_outside.specs.Outside.{HasCause, Rose, Writes};
 ghost use Rattle.thermal_cli.specs.Outcome.{Tells};
-ghost use Rattle.thermal_cli.specs.Texts.{answer_status, answer_text, ends_text, fault_name, fault_text, status_of, text_of};
+ghost use Rattle.thermal_cli.specs.Texts.{answer_status, answer_text, body_fault_text, corner_text, ends_text, fault_name, fault_text, status_of, text_of};
 
 use crate::Status;
 use itoa::Buffer;
-use tb_numbers::fixed;
+use tb_geometry::BodyFault;
+use tb_numbers::{decimal, fixed};
 use tb_outside::{OutputBuffer, Sink, SinkFault};
 use tb_sums::Interval;
 use tb_text::{DetailFault, DetailKind};
@@ -25,7 +26,9 @@ pub enum Answer {
     Accepted(Interval),
     /// The detail has this first fault.
     FaultOfDetail(DetailFault),
-    /// The detail has parts, which can't be calculated yet.
+    /// The body of the detail has this first fault.
+    FaultOfBody(BodyFault),
+    /// What the detail asks for can't be calculated yet.
     NotBuilt,
     /// The detail has no part.
     NoParts,
@@ -55,6 +58,7 @@ fn status_answered(answer: Answer) -> Status
         Answer::IntervalDiffers { .. } => Status::CertificateRefused,
         Answer::Accepted(_) => Status::Fine,
         Answer::FaultOfDetail(_) => Status::Refused,
+        Answer::FaultOfBody(_) => Status::Refused,
         Answer::NotBuilt => Status::Refused,
         Answer::NoParts => Status::Fine,
     }
@@ -215,6 +219,67 @@ fn put_fault<K: Sink>(sink: &mut K, fault: DetailFault) -> Result<(), SinkFault>
     }
 }
 
+fn put_cells<K: Sink>(sink: &mut K, count: u64) -> Result<(), SinkFault>
+    ensures writes { Writes (K.holds sink.old) (K.holds sink.new) (body_fault_text (BodyFault.TooManyCells count)) result }
+    ensures cause { HasCause (K.faults sink.old) (K.faults sink.new) result }
+{
+    let mut buffer = Buffer::new();
+    let count = buffer.format(count).as_bytes();
+    put_text(sink, &[b"refused,TooManyCells,cells ", count, b"\n"])
+}
+
+fn put_overlap<K: Sink>(sink: &mut K, first: u32, second: u32) -> Result<(), SinkFault>
+    ensures writes { Writes (K.holds sink.old) (K.holds sink.new) (body_fault_text (BodyFault.Overlap first second)) result }
+    ensures cause { HasCause (K.faults sink.old) (K.faults sink.new) result }
+{
+    let mut buffer = Buffer::new();
+    let first = buffer.format(first).as_bytes();
+    let mut buffer = Buffer::new();
+    let second = buffer.format(second).as_bytes();
+    put_text(
+        sink,
+        &[b"refused,Overlap,boxes ", first, b" ", second, b"\n"],
+    )
+}
+
+// A line with a corner in mm at its end.
+fn put_corner<K: Sink>(sink: &mut K, start: &[u8], x: u32, y: u32, z: u32) -> Result<(), SinkFault>
+    ensures writes { Writes (K.holds sink.old) (K.holds sink.new) (start.now ++ corner_text x y z ++ codes "\n") result }
+    ensures cause { HasCause (K.faults sink.old) (K.faults sink.new) result }
+{
+    let (x, y, z) = (
+        decimal(u64::from(x), 1),
+        decimal(u64::from(y), 1),
+        decimal(u64::from(z), 1),
+    );
+    put_text(
+        sink,
+        &[
+            start,
+            x.as_bytes(),
+            b" ",
+            y.as_bytes(),
+            b" ",
+            z.as_bytes(),
+            b"\n",
+        ],
+    )
+}
+
+fn put_body_fault<K: Sink>(sink: &mut K, fault: BodyFault) -> Result<(), SinkFault>
+    ensures writes { Writes (K.holds sink.old) (K.holds sink.new) (body_fault_text fault) result }
+    ensures cause { HasCause (K.faults sink.old) (K.faults sink.new) result }
+{
+    match fault {
+        BodyFault::TooFewEnvironments => put_text(sink, &[b"refused,TooFewEnvironments\n"]),
+        BodyFault::NoSolid => put_text(sink, &[b"refused,NoSolid\n"]),
+        BodyFault::TooManyCells(count) => put_cells(sink, count),
+        BodyFault::Overlap(first, second) => put_overlap(sink, first, second),
+        BodyFault::Uncovered { x, y, z } => put_corner(sink, b"refused,Uncovered,", x, y, z),
+        BodyFault::Isolated { x, y, z } => put_corner(sink, b"refused,Isolated,", x, y, z),
+    }
+}
+
 fn put_answer<K: Sink>(sink: &mut K, answer: Answer) -> Result<(), SinkFault>
     ensures writes { Writes (K.holds sink.old) (K.holds sink.new) (answer_text answer) result }
     ensures cause { HasCause (K.faults sink.old) (K.faults sink.new) result }
@@ -225,6 +290,7 @@ fn put_answer<K: Sink>(sink: &mut K, answer: Answer) -> Result<(), SinkFault>
         Answer::IntervalDiffers { claimed, found } => put_differs(sink, claimed, found),
         Answer::Accepted(interval) => put_accepted(sink, interval),
         Answer::FaultOfDetail(fault) => put_fault(sink, fault),
+        Answer::FaultOfBody(fault) => put_body_fault(sink, fault),
         Answer::NotBuilt => put_text(sink, &[b"refused,NotBuilt\n"]),
         Answer::NoParts => put_text(sink, &[b"end\n"]),
     }

@@ -261,6 +261,54 @@ fn details_are_read(rt: HostRuntime) -> Result<(), Fail> {
     Ok(())
 }
 
+const BODY: &[u8] = b"detail,1,3\nenv,inside\nenv,outside\nmat,wall,1\n";
+
+const SOLID: &[u8] = b"solid,wall,0.1,200.1,0,1000,0,1000\n";
+
+const INSIDE: &[u8] = b"air,inside,0.13,0,0.1,0,1000,0,1000\n";
+
+const OUTSIDE: &[u8] = b"air,outside,0.04,200.1,200.2,0,1000,0,1000\n";
+
+// Whether `solve` refuses the detail of these pieces with this line.
+fn is_refused(alloc: Global, pieces: &[&[u8]], line: &[u8]) -> Result<bool, AllocError> {
+    let mut text = Vec::new(alloc);
+    for piece in pieces {
+        text.extend_from_slice(*piece)?;
+    }
+    let (found, written) = answered(alloc, "solve", text)?;
+    Ok(found == Status::Refused && written.as_slice() == line)
+}
+
+#[test]
+fn bodies_are_judged(rt: HostRuntime) -> Result<(), Fail> {
+    let alloc = rt.alloc();
+    assert!(rt; is_refused(alloc, &[], NO_FORM)?);
+    assert!(rt;
+        is_refused(
+            alloc,
+            &[BODY, SOLID, INSIDE, OUTSIDE],
+            b"refused,NotBuilt\n"
+        )?
+    );
+
+    let one: &[u8] = b"detail,1,3\nenv,inside\nmat,wall,1\n";
+    let line = b"refused,TooFewEnvironments\n";
+    assert!(rt; is_refused(alloc, &[one, SOLID, INSIDE], line)?);
+    assert!(rt; is_refused(alloc, &[BODY, INSIDE, OUTSIDE], b"refused,NoSolid\n")?);
+
+    let deeper: &[u8] = b"air,inside,0.13,0,0.2,0,1000,0,1000\n";
+    let line = b"refused,Overlap,boxes 1 2\n";
+    assert!(rt; is_refused(alloc, &[BODY, SOLID, deeper, OUTSIDE], line)?);
+
+    let slabs: &[u8] =
+        b"solid,wall,0.1,200.1,0,1000,0,999.9\nsolid,wall,0.1,200.1,0,999.9,999.9,1000\n";
+    let short: &[u8] = b"solid,wall,0.1,200,999.9,1000,999.9,1000\n";
+    let line = b"refused,Uncovered,200 999.9 999.9\n";
+    assert!(rt; is_refused(alloc, &[BODY, slabs, short, INSIDE, OUTSIDE], line)?);
+    assert!(rt; is_refused(alloc, &[BODY, SOLID], b"refused,Isolated,0.1 0 0\n")?);
+    Ok(())
+}
+
 #[test]
 fn a_sink_without_room_gets_the_front(rt: HostRuntime) -> Result<(), Fail> {
     let mut source = SteadySource::new(bundle(rt.alloc(), &[])?);
@@ -309,7 +357,7 @@ fn a_source_that_fails_is_told(rt: HostRuntime) -> Result<(), Fail> {
 
 #[test]
 fn other_words_have_no_reading(rt: HostRuntime) -> Result<(), Fail> {
-    for word in ["", "chec", "check ", "Check", "uvalues", "solve", "--help"] {
+    for word in ["", "chec", "check ", "Check", "uvalues", "solv", "--help"] {
         let mut source = SteadySource::new(bundle(rt.alloc(), &[])?);
         let Ok(mut sink) = MemorySink::new(rt.alloc(), 100, Vec::new(rt.alloc())) else {
             return Err(Fail::from(AllocError));

@@ -7,6 +7,7 @@ ghost use Rattle.thermal_cli.specs.Words.{command_of};
 ghost use Rattle.thermal_cli.specs.declared.words.Command.{Command};
 
 use crate::check::check;
+use crate::solve::solve;
 use crate::telling::tell;
 use crate::uvalue::uvalue;
 use crate::words::{Command, command_of};
@@ -25,6 +26,7 @@ fn answer(alloc: Global, command: Command, bytes: &[u8]) -> Result<Answer, NoMem
 {
     match command {
         Command::Check => check(alloc, bytes),
+        Command::Solve => solve(alloc, bytes),
         Command::UValue => uvalue(alloc, bytes),
     }
 }
@@ -50,8 +52,9 @@ fn work<S: Source>(alloc: Global, words: &[String], source: &mut S) -> Told
 
 /// Runs the program on these words, which don't begin with the program's name.
 ///
-/// `check` reads a bundle from the source, and writes the interval that it certifies. `uvalue` reads a detail, and
-/// writes the U-values of its parts; until they are calculated, a detail with parts is refused. Each is the only word.
+/// `check` reads a bundle from the source, and writes the interval that it certifies. `solve` reads a detail and tells
+/// its first fault or that of its body; solving comes later, so a body without a fault is refused as not built.
+/// `uvalue` reads a detail; until U-values are calculated, a detail with parts is refused so too. Each is the only word.
 /// Where the input is refused, one line says why (`docs/FORMATS.md`). All memory is taken before the first byte is
 /// written.
 pub fn run<S: Source, K: Sink>(

@@ -7,7 +7,9 @@ ghost use Rattle.thermal_cli.specs.Words.{command_of, command_of_word};
 pub enum Command {
     /// Reads a bundle, and writes the interval that it certifies.
     Check,
-    /// Reads a detail, and writes the U-values of its parts.
+    /// Reads a detail, and will write the bundle that certifies its coefficients.
+    Solve,
+    /// Reads a detail, and will write the U-values of its parts.
     UValue,
 }
 
@@ -26,6 +28,9 @@ fn command_of_word(word: &str) -> Option<Command>
 {
     if word == "check" {
         return Some(Command::Check);
+    }
+    if word == "solve" {
+        return Some(Command::Solve);
     }
     if word == "uvalue" {
         return Some(Command::UValue);
