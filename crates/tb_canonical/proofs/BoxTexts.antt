@@ -14,36 +14,33 @@ use Rattle.tb_text.specs.declared.kinds.NameKind.TheVariants as name
 use Rattle.tb_text.specs.declared.kinds.RecordKind.TheVariants as kind
 use Rattle.tb_text.specs.Kinds.{word}
 use Rattle.tb_text.specs.Names.{NamesByKind}
-use Rattle.tb_canonical.specs.Canonical.{content_fields, name_at, number, span_fields}
+use Rattle.tb_canonical.specs.Canonical.{axis_fields, content_fields, name_at, number, span_fields}
 use Rattle.tb_canonical.proofs.Joined.{behind_commas, joined_more}
 
-abbrev pub axis : ℕ → ℕ → List (List ℕ)
-axis low high = number quantity.Length low ∷ number quantity.Length high ∷ []
-
 abbrev pub last_axis : ℕ → Span → List (List ℕ)
-last_axis dimension s = if dimension == 2 then [] else axis s.z0 s.z1
+last_axis dimension s = if dimension == 2 then [] else axis_fields s.z0 s.z1
 
 pub span_text : (dimension : ℕ) (s : Span)
-    → behind_commas (span_fields dimension s) ≡ (behind_commas (axis s.x0 s.x1) ++ behind_commas (axis s.y0 s.y1)) ++ behind_commas (last_axis dimension s)
+    → behind_commas (span_fields dimension s) ≡ (behind_commas (axis_fields s.x0 s.x1) ++ behind_commas (axis_fields s.y0 s.y1)) ++ behind_commas (last_axis dimension s)
 span_text dimension s =
-    flat_map-append (λ field. 44 ∷ field) (axis s.x0 s.x1 ++ axis s.y0 s.y1) (last_axis dimension s)
-    ∙ ap (λ (text : List ℕ). text ++ behind_commas (last_axis dimension s)) (flat_map-append (λ field. 44 ∷ field) (axis s.x0 s.x1) (axis s.y0 s.y1))
+    flat_map-append (λ field. 44 ∷ field) (axis_fields s.x0 s.x1 ++ axis_fields s.y0 s.y1) (last_axis dimension s)
+    ∙ ap (λ (text : List ℕ). text ++ behind_commas (last_axis dimension s)) (flat_map-append (λ field. 44 ∷ field) (axis_fields s.x0 s.x1) (axis_fields s.y0 s.y1))
 
 pub span_text_flat : (dimension : ℕ) (s : Span) → dimension ≡ 2
-    → behind_commas (span_fields dimension s) ≡ behind_commas (axis s.x0 s.x1) ++ behind_commas (axis s.y0 s.y1)
+    → behind_commas (span_fields dimension s) ≡ behind_commas (axis_fields s.x0 s.x1) ++ behind_commas (axis_fields s.y0 s.y1)
 span_text_flat dimension s e =
     let none : last_axis dimension s ≡ [] = rw e refl in
     span_text dimension s
-    ∙ ap (λ (last : List (List ℕ)). (behind_commas (axis s.x0 s.x1) ++ behind_commas (axis s.y0 s.y1)) ++ behind_commas last) none
-    ∙ append-nil (behind_commas (axis s.x0 s.x1) ++ behind_commas (axis s.y0 s.y1))
+    ∙ ap (λ (last : List (List ℕ)). (behind_commas (axis_fields s.x0 s.x1) ++ behind_commas (axis_fields s.y0 s.y1)) ++ behind_commas last) none
+    ∙ append-nil (behind_commas (axis_fields s.x0 s.x1) ++ behind_commas (axis_fields s.y0 s.y1))
 
 pub span_text_deep : (dimension : ℕ) (s : Span) → (dimension ≡ 2 → ⊥)
     → behind_commas (span_fields dimension s)
-    ≡ (behind_commas (axis s.x0 s.x1) ++ behind_commas (axis s.y0 s.y1)) ++ behind_commas (axis s.z0 s.z1)
+    ≡ (behind_commas (axis_fields s.x0 s.x1) ++ behind_commas (axis_fields s.y0 s.y1)) ++ behind_commas (axis_fields s.z0 s.z1)
 span_text_deep dimension s e =
-    let some : last_axis dimension s ≡ axis s.z0 s.z1 = rw (ne_eqb dimension 2 e) refl in
+    let some : last_axis dimension s ≡ axis_fields s.z0 s.z1 = rw (ne_eqb dimension 2 e) refl in
     span_text dimension s
-    ∙ ap (λ (last : List (List ℕ)). (behind_commas (axis s.x0 s.x1) ++ behind_commas (axis s.y0 s.y1)) ++ behind_commas last) some
+    ∙ ap (λ (last : List (List ℕ)). (behind_commas (axis_fields s.x0 s.x1) ++ behind_commas (axis_fields s.y0 s.y1)) ++ behind_commas last) some
 
 pub box_text : (names : NamesByKind) (dimension : ℕ) (content : Content) (s : Span)
     → record_text (content_fields names content ++ span_fields dimension s)

@@ -66,21 +66,30 @@ abbrev pub content_fields : NamesByKind → Content → Row
 content_fields names (Solid material) = word kind.Solid ∷ name_at (names name.Material) material ∷ []
 content_fields names (Air environment rs) = word kind.Air ∷ name_at (names name.Environment) environment ∷ number quantity.Resistance rs ∷ []
 
+-- the two coordinates of an axis
+abbrev pub axis_fields : ℕ → ℕ → Row
+axis_fields low high = number quantity.Length low ∷ number quantity.Length high ∷ []
+
 -- the coordinates of a box, without those of z in dimension 2
 abbrev pub span_fields : ℕ → Span → Row
-span_fields dimension s =
-    number quantity.Length s.x0 ∷ number quantity.Length s.x1 ∷ number quantity.Length s.y0 ∷ number quantity.Length s.y1
-    ∷ (if dimension == 2 then [] else number quantity.Length s.z0 ∷ number quantity.Length s.z1 ∷ [])
+span_fields dimension s = axis_fields s.x0 s.x1 ++ axis_fields s.y0 s.y1 ++ (if dimension == 2 then [] else axis_fields s.z0 s.z1)
 
 abbrev pub box_row : NamesByKind → ℕ → SpaceBox → Row
 box_row names dimension b = content_fields names b.content ++ span_fields dimension b.span
 
-abbrev pub part_row : Part → Row
-part_row p = word kind.Part ∷ p.name ∷ number quantity.Resistance p.rsi ∷ number quantity.Resistance p.rse ∷ map (number quantity.Section) p.areas
+-- the fields of a part before its areas
+abbrev pub part_fields : Part → Row
+part_fields p = word kind.Part ∷ p.name ∷ number quantity.Resistance p.rsi ∷ number quantity.Resistance p.rse ∷ []
 
--- a layer of the part of this name
+abbrev pub part_row : Part → Row
+part_row p = part_fields p ++ map (number quantity.Section) p.areas
+
+-- the fields of a layer of the part of this name, before its materials
+abbrev pub layer_fields : Text → ℕ → Row
+layer_fields part thickness = word kind.Layer ∷ part ∷ number quantity.Thickness thickness ∷ []
+
 abbrev pub layer_row : NamesByKind → Text → Layer → Row
-layer_row names part l = word kind.Layer ∷ part ∷ number quantity.Thickness l.thickness ∷ map (name_at (names name.Material)) l.materials
+layer_row names part l = layer_fields part l.thickness ++ map (name_at (names name.Material)) l.materials
 
 abbrev pub psi_row : NamesByKind → PsiItem → Row
 psi_row names p = word kind.Psi ∷ p.name ∷ name_at (names name.Environment) p.first ∷ name_at (names name.Environment) p.second ∷ []

@@ -4,7 +4,7 @@ ghost use Rattle.std.specs.List.{flat_map, join_with_byte};
 ghost use Rattle.tb_outside.specs.Outside.{Gathers, HasCause};
 ghost use Rattle.tb_records.specs.Plain.{record_text, records_text};
 ghost use Rattle.tb_detail.specs.Limits.{BoxInLimits, ContentInLimits};
-ghost use Rattle.tb_canonical.specs.Canonical.{box_row, content_fields, names_in, number, span_fields};
+ghost use Rattle.tb_canonical.specs.Canonical.{axis_fields, box_row, content_fields, names_in, span_fields};
 
 use crate::fields::{environment_name, material_name, number};
 use crate::record::put_fields;
@@ -20,7 +20,8 @@ fn put_content<K: Sink>(
 ) -> Result<(), SinkFault>
     requires { ContentInLimits detail.now content }
     ensures gathers { Gathers (K.holds sink.old) (K.holds sink.new)
-        (buffer.old ++ join_with_byte 44 (content_fields (names_in detail.now) content)) buffer.new result }
+        (buffer.old ++ join_with_byte 44 (content_fields (names_in detail.now) content))
+        buffer.new result }
     ensures cause { HasCause (K.faults sink.old) (K.faults sink.new) result }
     ensures fault { OnErr result (buffer.new ≡ []) }
 {
@@ -45,7 +46,7 @@ fn put_axis<K: Sink>(
     high: u32,
 ) -> Result<(), SinkFault>
     ensures gathers { Gathers (K.holds sink.old) (K.holds sink.new)
-        (buffer.old ++ flat_map (λ field. 44 ∷ field) (number Quantity.Length low ∷ number Quantity.Length high ∷ [])) buffer.new result }
+        (buffer.old ++ flat_map (λ field. 44 ∷ field) (axis_fields low high)) buffer.new result }
     ensures cause { HasCause (K.faults sink.old) (K.faults sink.new) result }
     ensures fault { OnErr result (buffer.new ≡ []) }
 {
@@ -61,7 +62,8 @@ fn put_span<K: Sink>(
     span: Span,
 ) -> Result<(), SinkFault>
     ensures gathers { Gathers (K.holds sink.old) (K.holds sink.new)
-        (buffer.old ++ flat_map (λ field. 44 ∷ field) (span_fields dimension span)) buffer.new result }
+        (buffer.old ++ flat_map (λ field. 44 ∷ field) (span_fields dimension span))
+        buffer.new result }
     ensures cause { HasCause (K.faults sink.old) (K.faults sink.new) result }
     ensures fault { OnErr result (buffer.new ≡ []) }
 {
@@ -81,7 +83,8 @@ fn put_box<K: Sink>(
 ) -> Result<(), SinkFault>
     requires { BoxInLimits detail.now space.now }
     ensures gathers { Gathers (K.holds sink.old) (K.holds sink.new)
-        (buffer.old ++ record_text (box_row (names_in detail.now) detail.now.dimension space.now)) buffer.new result }
+        (buffer.old ++ record_text (box_row (names_in detail.now) detail.now.dimension space.now))
+        buffer.new result }
     ensures cause { HasCause (K.faults sink.old) (K.faults sink.new) result }
     ensures fault { OnErr result (buffer.new ≡ []) }
 {
@@ -98,7 +101,9 @@ pub fn put_boxes<K: Sink>(
 ) -> Result<(), SinkFault>
     requires { All (BoxInLimits detail.now) boxes.now }
     ensures gathers { Gathers (K.holds sink.old) (K.holds sink.new)
-        (buffer.old ++ flat_map (λ space. record_text (box_row (names_in detail.now) detail.now.dimension space)) boxes.now) buffer.new result }
+        (buffer.old ++ flat_map
+        (λ space. record_text (box_row (names_in detail.now) detail.now.dimension space)) boxes.now)
+        buffer.new result }
     ensures cause { HasCause (K.faults sink.old) (K.faults sink.new) result }
     ensures fault { OnErr result (buffer.new ≡ []) }
 {

@@ -46,7 +46,9 @@ fn put_environments<K: Sink>(
     environments: &[Environment],
 ) -> Result<(), SinkFault>
     ensures gathers { Gathers (K.holds sink.old) (K.holds sink.new)
-        (buffer.old ++ flat_map (λ environment. record_text (environment_row environment)) environments.now) buffer.new result }
+        (buffer.old ++ flat_map
+        (λ environment. record_text (environment_row environment)) environments.now)
+        buffer.new result }
     ensures cause { HasCause (K.faults sink.old) (K.faults sink.new) result }
     ensures fault { OnErr result (buffer.new ≡ []) }
 {
@@ -81,7 +83,8 @@ fn put_materials<K: Sink>(
     materials: &[Material],
 ) -> Result<(), SinkFault>
     ensures gathers { Gathers (K.holds sink.old) (K.holds sink.new)
-        (buffer.old ++ flat_map (λ material. record_text (material_row material)) materials.now) buffer.new result }
+        (buffer.old ++ flat_map (λ material. record_text (material_row material)) materials.now)
+        buffer.new result }
     ensures cause { HasCause (K.faults sink.old) (K.faults sink.new) result }
     ensures fault { OnErr result (buffer.new ≡ []) }
 {

@@ -1,4 +1,5 @@
-// Fields of records: names at places, and numbers. Lists and names go through accessors, since their views meet only there.
+// Fields of records: names at places, and numbers. The bytes of a name and the items of a list come by a
+// call, since their views meet only there.
 ghost use Rattle.std.specs.Prelude.{◌≡◌, ◌<◌, ◌≤◌, length};
 ghost use Rattle.tb_canonical.specs.Canonical.{dimension_text, name_at, names_in, number, psi_number};
 ghost use Rattle.tb_text.specs.Kinds.{places};

@@ -22,7 +22,8 @@ fn put_term<K: Sink>(
 ) -> Result<(), SinkFault>
     requires { TermInLimits detail.now quantity term }
     ensures gathers { Gathers (K.holds sink.old) (K.holds sink.new)
-        (buffer.old ++ record_text (term_row (names_in detail.now) word.now quantity item.now term)) buffer.new result }
+        (buffer.old ++ record_text (term_row (names_in detail.now) word.now quantity item.now term))
+        buffer.new result }
     ensures cause { HasCause (K.faults sink.old) (K.faults sink.new) result }
     ensures fault { OnErr result (buffer.new ≡ []) }
 {
@@ -43,7 +44,9 @@ fn put_terms<K: Sink>(
 ) -> Result<(), SinkFault>
     requires { All (TermInLimits detail.now quantity) terms.now }
     ensures gathers { Gathers (K.holds sink.old) (K.holds sink.new)
-        (buffer.old ++ flat_map (λ term. record_text (term_row (names_in detail.now) word.now quantity item.now term)) terms.now) buffer.new result }
+        (buffer.old ++ flat_map
+        (λ term. record_text (term_row (names_in detail.now) word.now quantity item.now term)) terms.now)
+        buffer.new result }
     ensures cause { HasCause (K.faults sink.old) (K.faults sink.new) result }
     ensures fault { OnErr result (buffer.new ≡ []) }
 {
@@ -88,7 +91,8 @@ fn put_lines<K: Sink>(
     lines: &[LineTerm],
 ) -> Result<(), SinkFault>
     ensures gathers { Gathers (K.holds sink.old) (K.holds sink.new)
-        (buffer.old ++ flat_map (λ line. record_text (line_row item.now line)) lines.now) buffer.new result }
+        (buffer.old ++ flat_map (λ line. record_text (line_row item.now line)) lines.now)
+        buffer.new result }
     ensures cause { HasCause (K.faults sink.old) (K.faults sink.new) result }
     ensures fault { OnErr result (buffer.new ≡ []) }
 {
@@ -153,7 +157,8 @@ pub fn put_psis<K: Sink>(
 ) -> Result<(), SinkFault>
     requires { All (PsiInLimits detail.now) psis.now }
     ensures gathers { Gathers (K.holds sink.old) (K.holds sink.new)
-        (buffer.old ++ flat_map (λ psi. records_text (psi_rows (names_in detail.now) psi)) psis.now) buffer.new result }
+        (buffer.old ++ flat_map (λ psi. records_text (psi_rows (names_in detail.now) psi)) psis.now)
+        buffer.new result }
     ensures cause { HasCause (K.faults sink.old) (K.faults sink.new) result }
     ensures fault { OnErr result (buffer.new ≡ []) }
 {
@@ -219,7 +224,8 @@ pub fn put_chis<K: Sink>(
 ) -> Result<(), SinkFault>
     requires { All (ChiInLimits detail.now) chis.now }
     ensures gathers { Gathers (K.holds sink.old) (K.holds sink.new)
-        (buffer.old ++ flat_map (λ chi. records_text (chi_rows (names_in detail.now) chi)) chis.now) buffer.new result }
+        (buffer.old ++ flat_map (λ chi. records_text (chi_rows (names_in detail.now) chi)) chis.now)
+        buffer.new result }
     ensures cause { HasCause (K.faults sink.old) (K.faults sink.new) result }
     ensures fault { OnErr result (buffer.new ≡ []) }
 {

@@ -4,10 +4,8 @@ ghost use Rattle.std.specs.List.{flat_map, join_with_byte};
 ghost use Rattle.tb_outside.specs.Outside.{Gathers, HasCause};
 ghost use Rattle.tb_records.specs.Plain.{record_text, records_text};
 ghost use Rattle.tb_detail.specs.Limits.{PartInLimits};
-ghost use Rattle.tb_canonical.specs.Canonical.{layer_row, name_at, names_in, number, part_row, part_rows};
-ghost use Rattle.tb_text.specs.Kinds.{word};
+ghost use Rattle.tb_canonical.specs.Canonical.{layer_fields, layer_row, name_at, names_in, number, part_fields, part_row, part_rows};
 ghost use Rattle.tb_text.specs.declared.kinds.NameKind.TheVariants as name;
-ghost use Rattle.tb_text.specs.declared.kinds.RecordKind.TheVariants as RecordKind;
 
 use crate::fields::{material_name, name_bytes, number, slice_of};
 use crate::record::put_fields;
@@ -23,7 +21,9 @@ fn put_material_names<K: Sink>(
 ) -> Result<(), SinkFault>
     requires { All (λ material. material < length detail.now.materials) materials.now }
     ensures gathers { Gathers (K.holds sink.old) (K.holds sink.new)
-        (buffer.old ++ flat_map (λ material. 44 ∷ name_at (names_in detail.now name.Material) material) materials.now) buffer.new result }
+        (buffer.old ++ flat_map
+        (λ material. 44 ∷ name_at (names_in detail.now name.Material) material) materials.now)
+        buffer.new result }
     ensures cause { HasCause (K.faults sink.old) (K.faults sink.new) result }
     ensures fault { OnErr result (buffer.new ≡ []) }
 {
@@ -42,7 +42,7 @@ fn put_layer_fields<K: Sink>(
     thickness: u32,
 ) -> Result<(), SinkFault>
     ensures gathers { Gathers (K.holds sink.old) (K.holds sink.new)
-        (buffer.old ++ join_with_byte 44 (word RecordKind.Layer ∷ part.now ∷ number Quantity.Thickness thickness ∷ [])) buffer.new result }
+        (buffer.old ++ join_with_byte 44 (layer_fields part.now thickness)) buffer.new result }
     ensures cause { HasCause (K.faults sink.old) (K.faults sink.new) result }
     ensures fault { OnErr result (buffer.new ≡ []) }
 {
@@ -59,7 +59,8 @@ fn put_layer<K: Sink>(
 ) -> Result<(), SinkFault>
     requires { All (λ material. material < length detail.now.materials) layer.now.materials }
     ensures gathers { Gathers (K.holds sink.old) (K.holds sink.new)
-        (buffer.old ++ record_text (layer_row (names_in detail.now) part.now layer.now)) buffer.new result }
+        (buffer.old ++ record_text (layer_row (names_in detail.now) part.now layer.now))
+        buffer.new result }
     ensures cause { HasCause (K.faults sink.old) (K.faults sink.new) result }
     ensures fault { OnErr result (buffer.new ≡ []) }
 {
@@ -76,9 +77,12 @@ fn put_layers<K: Sink>(
     part: &[u8],
     layers: &[Layer],
 ) -> Result<(), SinkFault>
-    requires { All (λ layer. All (λ material. material < length detail.now.materials) layer.materials) layers.now }
+    requires { All (λ layer. All (λ material. material < length detail.now.materials) layer.materials)
+        layers.now }
     ensures gathers { Gathers (K.holds sink.old) (K.holds sink.new)
-        (buffer.old ++ flat_map (λ layer. record_text (layer_row (names_in detail.now) part.now layer)) layers.now) buffer.new result }
+        (buffer.old ++ flat_map
+        (λ layer. record_text (layer_row (names_in detail.now) part.now layer)) layers.now)
+        buffer.new result }
     ensures cause { HasCause (K.faults sink.old) (K.faults sink.new) result }
     ensures fault { OnErr result (buffer.new ≡ []) }
 {
@@ -95,7 +99,8 @@ fn put_areas<K: Sink>(
     areas: &[u32],
 ) -> Result<(), SinkFault>
     ensures gathers { Gathers (K.holds sink.old) (K.holds sink.new)
-        (buffer.old ++ flat_map (λ area. 44 ∷ number Quantity.Section area) areas.now) buffer.new result }
+        (buffer.old ++ flat_map (λ area. 44 ∷ number Quantity.Section area) areas.now)
+        buffer.new result }
     ensures cause { HasCause (K.faults sink.old) (K.faults sink.new) result }
     ensures fault { OnErr result (buffer.new ≡ []) }
 {
@@ -113,7 +118,7 @@ fn put_part_fields<K: Sink>(
     part: &Part,
 ) -> Result<(), SinkFault>
     ensures gathers { Gathers (K.holds sink.old) (K.holds sink.new)
-        (buffer.old ++ join_with_byte 44 (word RecordKind.Part ∷ part.now.name ∷ number Quantity.Resistance part.now.rsi ∷ number Quantity.Resistance part.now.rse ∷ [])) buffer.new result }
+        (buffer.old ++ join_with_byte 44 (part_fields part.now)) buffer.new result }
     ensures cause { HasCause (K.faults sink.old) (K.faults sink.new) result }
     ensures fault { OnErr result (buffer.new ≡ []) }
 {
@@ -167,7 +172,9 @@ pub fn put_parts<K: Sink>(
 ) -> Result<(), SinkFault>
     requires { All (PartInLimits detail.now) parts.now }
     ensures gathers { Gathers (K.holds sink.old) (K.holds sink.new)
-        (buffer.old ++ flat_map (λ part. records_text (part_rows (names_in detail.now) part)) parts.now) buffer.new result }
+        (buffer.old ++ flat_map
+        (λ part. records_text (part_rows (names_in detail.now) part)) parts.now)
+        buffer.new result }
     ensures cause { HasCause (K.faults sink.old) (K.faults sink.new) result }
     ensures fault { OnErr result (buffer.new ≡ []) }
 {

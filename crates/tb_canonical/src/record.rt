@@ -14,7 +14,8 @@ pub fn put_fields<K: Sink>(
     fields: &[&[u8]],
 ) -> Result<(), SinkFault>
     ensures gathers { Gathers (K.holds sink.old) (K.holds sink.new)
-        (buffer.old ++ join_with_byte 44 (word.now ∷ map (λ field. field.now) fields.now)) buffer.new result }
+        (buffer.old ++ join_with_byte 44 (word.now ∷ map (λ field. field.now) fields.now))
+        buffer.new result }
     ensures cause { HasCause (K.faults sink.old) (K.faults sink.new) result }
     ensures fault { OnErr result (buffer.new ≡ []) }
 {
@@ -34,7 +35,8 @@ pub fn put_record<K: Sink>(
     fields: &[&[u8]],
 ) -> Result<(), SinkFault>
     ensures gathers { Gathers (K.holds sink.old) (K.holds sink.new)
-        (buffer.old ++ record_text (word.now ∷ map (λ field. field.now) fields.now)) buffer.new result }
+        (buffer.old ++ record_text (word.now ∷ map (λ field. field.now) fields.now))
+        buffer.new result }
     ensures cause { HasCause (K.faults sink.old) (K.faults sink.new) result }
     ensures fault { OnErr result (buffer.new ≡ []) }
 {

@@ -10,7 +10,7 @@ use tb_outside::MemorySink;
 use tb_text::read_detail;
 
 // Details and their canonical texts.
-const TEXTS: [(&str, &str); 8] = [
+const TEXTS: [(&str, &str); 9] = [
     // A wall, with records in another order, remarks, and zeros at the ends of numbers.
     (
         "# a wall\ndetail,1,3\nmat,wall,500.0\nenv,inside\n\"env\",outside\n\nsolid,wall,0.1,0200.1,0,1000.0,0,1000\n\
@@ -82,6 +82,13 @@ const TEXTS: [(&str, &str); 8] = [
          layer,p,0.1,m\nchi,c,a,b\narea,c,p,0.0001\nline,c,-0.000001,0.000001,0.1\n",
         "detail,1,3\nenv,a\nenv,b\nmat,m,0.0001\nair,a,0.0001,0,0.1,0,0.1,0,0.1\npart,p,0.0001,0.0001,1\n\
          layer,p,0.1,m\nchi,c,a,b\narea,c,p,0.0001\nline,c,-0.000001,0.000001,0.1\n",
+    ),
+    // The greatest numbers in two dimensions.
+    (
+        "detail,1,2\nenv,a\nenv,b\nmat,m,500\nsolid,m,0,50000,49999.9,50000\nair,b,10,0,0.1,0,50000\n\
+         part,p,10,10\nlayer,p,50000,m\npsi,q,b,a\nlength,q,p,50000\n",
+        "detail,1,2\nenv,a\nenv,b\nmat,m,500\nsolid,m,0,50000,49999.9,50000\nair,b,10,0,0.1,0,50000\n\
+         part,p,10,10,1\nlayer,p,50000,m\npsi,q,b,a\nlength,q,p,50000\n",
     ),
 ];
 

@@ -3,11 +3,11 @@ ghost use Rattle.std.specs.Prelude.{◌≡◌, length};
 ghost use Rattle.tb_detail.specs.Limits.{InLimits};
 
 use crate::base::base_grid;
-use crate::boxes::{boxes_of, first_overlap};
+use crate::boxes::{boxes_of, first_overlap, has_solid};
 use crate::fault::{BodyFault, BodyRefusal};
 use crate::holders::covering;
 use crate::linking::linked;
-use crate::occupant::{Occupant, has_solid, occupants};
+use crate::occupant::{Occupant, occupants};
 use std::alloc::Global;
 use std::marker::Model;
 use std::snapshot::Snapshot;
@@ -53,6 +53,7 @@ fn materials_of(detail: &Detail) -> &[Material]
 impl Body {
     ghost use Rattle.tb_geometry.specs.Base.{base_axes};
     ghost use Rattle.tb_geometry.specs.Faults.{Answers, IsAccepted};
+    ghost use Rattle.tb_geometry.specs.Seen.{CarriesBody};
 
     /// The body of a detail.
     ///
@@ -101,6 +102,7 @@ impl Body {
         ensures grid { result.now ≡ base_axes self.now.boxes }
         ensures limits { InLimits self.now }
         ensures accepted { IsAccepted self.now }
+        ensures carries { CarriesBody result.now self.now }
     {
         &self.base
     }

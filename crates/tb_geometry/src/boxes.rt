@@ -1,5 +1,6 @@
 // The boxes of a detail, and the first two that overlap.
 ghost use Rattle.std.specs.Prelude.{◌≡◌, MatchOption, position};
+ghost use Rattle.std.specs.List.{list_any};
 ghost use Rattle.tb_geometry.specs.Bodies.{AreBoxes};
 ghost use Rattle.tb_geometry.specs.Cubes.{AreApart, IsFirstOverlap};
 ghost use Rattle.tb_geometry.specs.Tests.{is_solid, meet, meet_along};
@@ -23,6 +24,13 @@ pub fn is_solid(b: &SpaceBox) -> bool
         Content::Solid { .. } => true,
         Content::Air { .. } => false,
     }
+}
+
+/// Whether there is a solid box.
+pub fn has_solid(boxes: &[SpaceBox]) -> bool
+    ensures { result ≡ list_any (λ b. is_solid b.content) boxes.now }
+{
+    boxes.iter().any(|b| is_solid(b))
 }
 
 /// The lower coordinate of a box on an axis.

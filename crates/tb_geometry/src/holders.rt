@@ -62,8 +62,8 @@ fn paint_boxes(table: &mut [u16], base: &Grid, boxes: &[SpaceBox])
     ensures { IsTable boxes.now (length boxes.now) table.new }
 {
     let counts = base.counts();
-    for n in 0..boxes.len() {
-        paint(table, counts, cells_of(base, &boxes[n]), n as u16);
+    for (n, b) in boxes.iter().enumerate() {
+        paint(table, counts, cells_of(base, b), n as u16);
     }
 }
 

@@ -18,11 +18,10 @@ fn solid_cells(alloc: Global, boxes: &[SpaceBox], holders: &[u16]) -> Result<Vec
     requires { All (λ n. n < length boxes.now) holders.now }
     ensures { IfOk result (λ solid. solid.items ≡ solid_flags boxes.now holders.now) }
 {
-    let mut solid = Vec::new(alloc);
-    for holder in holders {
-        solid.push(is_solid(&boxes[usize::from(*holder)]))?;
-    }
-    Ok(solid)
+    holders
+        .iter()
+        .map(|holder| is_solid(&boxes[usize::from(*holder)]))
+        .collect(alloc)
 }
 
 /// Whether from each solid base cell a way through solid cells leads to a surface.
@@ -41,7 +40,8 @@ pub fn linked(
     ensures { Links detail.now result }
 {
     let solid = solid_cells(alloc, boxes_of(detail), holders)?;
-    match first_isolated(alloc, base, solid.as_slice())? {
+    let found = first_isolated(alloc, base, solid.as_slice())?;
+    match found {
         Some(cell) => {
             let (x, y, z) = low_corner(base, cell);
             Err(BodyRefusal::Fault(BodyFault::Isolated { x, y, z }))

@@ -1,12 +1,9 @@
 // What fills the boxes of a body.
-ghost use Rattle.std.specs.Prelude.{◌≡◌, All, IfOk, IsTrue, map};
-ghost use Rattle.std.specs.List.{list_any};
+ghost use Rattle.std.specs.Prelude.{◌≡◌, All, IfOk, map};
 ghost use Rattle.tb_geometry.specs.Bodies.{IsFilled, occupant_of};
-ghost use Rattle.tb_geometry.specs.Tests.{is_solid};
 
-use crate::boxes::is_solid;
 use std::alloc::{AllocError, Global};
-use tb_detail::{Content, Detail, Items, Material, SpaceBox};
+use tb_detail::{Content, Material, SpaceBox};
 
 /// What fills a box, and so its cells: a solid with its thermal conductivity in 10⁻⁴ W/(m·K), or the air of an
 /// environment, counted from 0, with the resistance of its surfaces in 10⁻⁴ m²K/W.
@@ -38,16 +35,5 @@ pub fn occupants(
     requires { All (IsFilled materials.now) boxes.now }
     ensures { IfOk result (λ all. all.items ≡ map (occupant_of materials.now) boxes.now) }
 {
-    let mut all = Vec::new(alloc);
-    for b in boxes {
-        all.push(filling(materials, b))?;
-    }
-    Ok(all)
-}
-
-/// Whether a box is solid.
-pub fn has_solid(boxes: &[SpaceBox]) -> bool
-    ensures { result ≡ list_any (λ b. is_solid b.content) boxes.now }
-{
-    boxes.iter().any(|b| is_solid(b))
+    boxes.iter().map(|b| filling(materials, b)).collect(alloc)
 }

@@ -140,13 +140,17 @@ fn a_gap(rt: HostRuntime) -> Result<(), Fail> {
     Ok(())
 }
 
-// Cubes of 1 mm along a diagonal: as many base intervals on each axis as cubes.
-fn diagonal(alloc: Global, count: u8) -> Result<Vec<SpaceBox>, AllocError> {
+// 64 cubes of 1 mm along a diagonal, the first two of them air.
+fn diagonal(alloc: Global) -> Result<Vec<SpaceBox>, AllocError> {
     let mut boxes = Vec::new(alloc);
-    for n in 0..count {
-        let low = 10 * u32::from(n);
-        let side = (low, low + 10);
-        boxes.push(space(SOLID, side, side, side))?;
+    for n in 0..64u32 {
+        let content = match n {
+            0 => INSIDE,
+            1 => OUTSIDE,
+            _ => SOLID,
+        };
+        let side = (10 * n, 10 * n + 10);
+        boxes.push(space(content, side, side, side))?;
     }
     Ok(boxes)
 }
@@ -172,11 +176,11 @@ fn the_largest_base_grid(rt: HostRuntime) -> Result<(), Fail> {
     let alloc = rt.alloc();
     let boxes = block(alloc)?;
     expect(&rt, alloc, 2, boxes.as_slice(), Ok(262_144))?;
-    let boxes = diagonal(alloc, 64)?;
+    let mut boxes = diagonal(alloc)?;
     let second_cell = BodyFault::Uncovered { x: 10, y: 0, z: 0 };
     expect(&rt, alloc, 2, boxes.as_slice(), Err(second_cell))?;
-    let boxes = diagonal(alloc, 65)?;
-    let too_many = BodyFault::TooManyCells(274_625);
+    boxes.push(space(SOLID, (640, 650), (630, 640), (630, 640)))?;
+    let too_many = BodyFault::TooManyCells(266_240);
     expect(&rt, alloc, 2, boxes.as_slice(), Err(too_many))?;
     Ok(())
 }

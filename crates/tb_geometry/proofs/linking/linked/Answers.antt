@@ -18,11 +18,11 @@ returns-in-Some c =
       refl,
       first_is_isolated c.args.detail.now c.args.base.now c.boxes_of.result.now c.args.holders.now c.as_slice.result.now c.in-Some.cell.0 _ _ _
           c.requires.base c.requires.apart c.requires.holders c.boxes_of.ensures (c.as_slice.ensures.value ∙ c.in_ok-solid.ensures)
-          (rw c.in-Some.is at c.in_ok-cell.ensures.first) corner.x corner.y corner.z,
+          (rw c.in-Some.is at c.in_ok-found.ensures.first) corner.x corner.y corner.z,
     )
 
 pub returns : goal.returns
 returns c =
     none_is_isolated c.args.detail.now c.args.base.now c.boxes_of.result.now c.args.holders.now c.as_slice.result.now
     c.requires.base c.requires.apart c.requires.holders c.boxes_of.ensures (c.as_slice.ensures.value ∙ c.in_ok-solid.ensures)
-    (rw c.in-None.is at c.in_ok-cell.ensures.first)
+    (rw c.in-None.is at c.in_ok-found.ensures.first)
