@@ -1,5 +1,5 @@
 -- A detail that was read is within limits.
-use Rattle.std.proofs.Common.{◌≡◌, ℕ, ◌+◌, ◌<◌, ◌≤◌, ◌==◌, ◌&&◌, ◌⊎◌, inl, inr, Bool, true, false, List, [], ◌∷◌, ◌++◌, length, map, get_or, Option, Some, None, Ok, refl, sym, ap, ◌∙◌, subst, arith, if◌then◌else◌, All, IsTrue, lit≤, append_assoc, option_map, position, is_none, codes}
+use Rattle.std.proofs.Common.{◌≡◌, ℕ, ◌+◌, ◌<◌, ◌≤◌, ◌==◌, ◌&&◌, ◌⊎◌, inl, inr, Bool, true, false, List, [], ◌∷◌, ◌++◌, length, map, get_or, Option, Some, None, Result, Ok, Err, IfOk, refl, sym, ap, ◌∙◌, subst, arith, if◌then◌else◌, All, IsTrue, lit≤, append_assoc, option_map, position, is_none, codes}
 use Rattle.std.proofs.lemmas.Bool.{eqb-true, eqb-false}
 use Rattle.std.proofs.lemmas.List.{append-nil, get_or-map, length-map}
 use Rattle.std.proofs.lemmas.List.Elements.{All-nil, All-weaker}
@@ -17,6 +17,7 @@ use Rattle.tb_detail.specs.Names.{AreNamed, Text, is_name}
 use Rattle.tb_text.specs.declared.draft.Draft.{Draft}
 use Rattle.tb_text.specs.declared.fault.DetailFault.{DetailFault}
 use Rattle.tb_text.specs.declared.fault.DetailKind.TheVariants.{NotFormat}
+use Rattle.tb_text.specs.declared.fault.DetailRefusal.{DetailRefusal}
 use Rattle.tb_text.specs.declared.fault.FieldFault.{FieldFault}
 use Rattle.tb_text.specs.declared.names.Names.{Names}
 use Rattle.tb_text.specs.declared.records.Said.{Said}
@@ -25,7 +26,7 @@ use Rattle.tb_text.specs.declared.values.FieldValue.{FieldValue}
 use Rattle.tb_text.specs.Details.{detail_from, detail_of, head_of}
 use Rattle.tb_text.specs.Drafts.{Holds, reading_behind, with_said}
 use Rattle.tb_text.specs.NameLists.{names_in, no_names}
-use Rattle.tb_text.specs.Reading.{Numbered, at_number, bare_fault, detail_reading, fault_of, first_record_fault, format_fault, is_bare, part_numbers, record_faults, rows_of, whole_fault}
+use Rattle.tb_text.specs.Reading.{Answers, Numbered, at_number, bare_fault, detail_reading, fault_of, first_record_fault, format_fault, is_bare, part_numbers, record_faults, rows_of, whole_fault}
 use Rattle.tb_text.specs.Records.{Row, first_some, head_dimension, said_by, text_at, unless}
 use Rattle.tb_text.proofs.Fields.{unless_ok}
 use Rattle.tb_text.proofs.Holding.{dimension_is, fault_behind, holds_none, no_names_in, rows_more, taken}
@@ -258,3 +259,8 @@ read_in_limits number given d h = subst InLimits (reached.holds.detail ∙ whole
 
     bare : position is_bare reached.draft.detail.parts ≡ None
     bare = ap (λ (x : Detail). position is_bare x.parts) reached.holds.detail ∙ no_map _ _ rest.1
+
+-- the same of an answer
+pub answer_in_limits : (number : ℕ) (given : List Numbered) (result : Result Detail DetailRefusal) → Answers result (detail_reading number given) → IfOk result InLimits
+answer_in_limits number given (Ok d) a = read_in_limits number given d a
+answer_in_limits number given (Err r) a = tt

@@ -4,6 +4,7 @@ ghost use Rattle.tb_detail.specs.Limits.{InLimits};
 ghost use Rattle.tb_records.specs.Records.{records_of};
 ghost use Rattle.tb_text.specs.Builders.{Feeds, Stands, StandsAs, told_as, whole_fault_of};
 ghost use Rattle.tb_text.specs.Reading.{Answers, Numbered, detail_reading, first_record_fault, is_bare, numbered};
+ghost use Rattle.tb_text.specs.Records.{unless};
 
 use crate::draft::{Draft, Stop};
 use crate::fault::{DetailFault, DetailKind, DetailRefusal};
@@ -99,6 +100,16 @@ fn take(draft: &mut Draft, alloc: Global, number: u32, fields: &ByteRecord) -> O
     }
 }
 
+// The detail of a draft that has refused no record, or the fault of it as a whole.
+fn finished(draft: Draft) -> Result<Detail, DetailRefusal>
+    ensures { Answers result (unless (whole_fault_of draft) draft.detail) }
+{
+    match whole_fault(&draft) {
+        Some(fault) => Err(DetailRefusal::Fault(fault)),
+        None => Ok(draft.into_detail()),
+    }
+}
+
 impl DetailBuilder {
     /// A builder of no records. It takes no memory.
     pub fn new(alloc: Global) -> DetailBuilder
@@ -139,12 +150,9 @@ impl DetailBuilder {
         ensures limits { (given : List Numbered) → Stands self given → IfOk result InLimits }
         ensures repeats { IfSome self.refusal (λ refusal. result ≡ Err refusal) }
     {
-        if let Some(refusal) = self.refusal {
-            return Err(refusal);
-        }
-        match whole_fault(&self.draft) {
-            Some(fault) => Err(DetailRefusal::Fault(fault)),
-            None => Ok(self.draft.detail),
+        match self.refusal {
+            Some(refusal) => Err(refusal),
+            None => finished(self.draft),
         }
     }
 }

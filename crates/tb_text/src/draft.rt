@@ -196,4 +196,11 @@ impl Draft {
             Err(fault) => Err(Stop::Fault(fault)),
         }
     }
+
+    /// The detail, without the names and the numbers.
+    pub fn into_detail(self) -> Detail
+        ensures { result ≡ self.detail }
+    {
+        self.detail
+    }
 }

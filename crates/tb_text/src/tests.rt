@@ -2,7 +2,7 @@
 use crate::{DetailBuilder, DetailFault, DetailKind, DetailRefusal, read_detail};
 use std::alloc::{AllocError, Global};
 use std::test::Fail;
-use tb_detail::{Content, LineTerm, PlanarTerm, SpaceBox, Span};
+use tb_detail::{ChiItem, Content, LineTerm, Part, PlanarTerm, SpaceBox, Span};
 use tb_records::ByteRecord;
 
 // What a text begins with: four records in dimension 3 or 2, or six with a part and an item.
@@ -272,36 +272,49 @@ fn boxes(rt: HostRuntime) -> Result<(), Fail> {
     Ok(())
 }
 
-#[test]
-fn parts_and_items(rt: HostRuntime) -> Result<(), Fail> {
-    assert!(rt; WALL.len() <= 1000);
-    let detail = read_detail(rt.alloc(), WALL).map_err(|_| "a refusal")?;
-    let [plain, timber] = detail.parts.items.as_slice() else {
-        return Err(Fail::from("other parts"));
+fn are_parts_of_wall(parts: &[Part]) -> bool {
+    let [plain, timber] = parts else {
+        return false;
     };
-    assert!(rt; plain.areas.items.as_slice() == [1].as_slice() && plain.layers.items.len() == 1);
-    assert!(rt; timber.areas.items.as_slice() == [3, 17].as_slice() && timber.rse == 2000);
     let [thin, thick] = timber.layers.items.as_slice() else {
-        return Err(Fail::from("other layers"));
+        return false;
     };
-    assert!(rt; thin.thickness == 125 && thin.materials.items.as_slice() == [0, 1].as_slice());
-    assert!(rt; thick.thickness == 1400 && thick.materials.items.as_slice() == [1, 1].as_slice());
-    let [corner] = detail.chis.items.as_slice() else {
-        return Err(Fail::from("other items"));
+    plain.areas.items.as_slice() == [1].as_slice()
+        && plain.layers.items.len() == 1
+        && timber.areas.items.as_slice() == [3, 17].as_slice()
+        && timber.rse == 2000
+        && thin.thickness == 125
+        && thin.materials.items.as_slice() == [0, 1].as_slice()
+        && thick.thickness == 1400
+        && thick.materials.items.as_slice() == [1, 1].as_slice()
+}
+
+fn are_items_of_wall(chis: &[ChiItem]) -> bool {
+    let [corner] = chis else {
+        return false;
     };
-    assert!(rt; corner.name.bytes.as_slice() == b"corner".as_slice());
-    assert!(rt; corner.first == 1 && corner.second == 0);
     let area = PlanarTerm {
         part: 1,
         amount: 15_000,
     };
-    assert!(rt; corner.areas.items.as_slice() == [area].as_slice());
     let line = LineTerm {
         psi_lo: -50_000,
         psi_hi: 60_000,
         length: 10_000,
     };
-    assert!(rt; corner.lines.items.as_slice() == [line].as_slice());
+    corner.name.bytes.as_slice() == b"corner".as_slice()
+        && corner.first == 1
+        && corner.second == 0
+        && corner.areas.items.as_slice() == [area].as_slice()
+        && corner.lines.items.as_slice() == [line].as_slice()
+}
+
+#[test]
+fn parts_and_items(rt: HostRuntime) -> Result<(), Fail> {
+    assert!(rt; WALL.len() <= 1000);
+    let detail = read_detail(rt.alloc(), WALL).map_err(|_| "a refusal")?;
+    assert!(rt; are_parts_of_wall(&detail.parts.items));
+    assert!(rt; are_items_of_wall(&detail.chis.items));
     Ok(())
 }
 
