@@ -146,7 +146,7 @@ module _ (d : Detail) (h : InLimits d) where
       all_plain (λ (c : ChiItem). IsTrue (is_name c.name) × ChiInLimits d c) (chi_rows (names_in d)) chi_item_plain d.chis
       (λ k e w. (h.named.chis.formed k e w, h.chis k e w))
 
-  canonical_plain : list_all is_plain_record (canonical_rows d) ≡ true
+  pub canonical_plain : list_all is_plain_record (canonical_rows d) ≡ true
   unfolding canonical_rows
   canonical_plain =
       let environments = map environment_row d.environments in

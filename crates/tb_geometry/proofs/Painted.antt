@@ -6,7 +6,7 @@ use Rattle.tb_places.specs.Inverse.{Place}
 use Rattle.tb_places.specs.Places.{Counts, IsCell, cell_number}
 use Rattle.tb_places.proofs.Cells.{cell_number_apart}
 use Rattle.tb_geometry.specs.declared.painting.CellRange.{CellRange}
-use Rattle.tb_geometry.specs.Painting.{FitsIn, HasCell, InRows, IsFilled, IsPainted, IsWithin}
+use Rattle.tb_geometry.specs.Painting.{FitsIn, HasCell, InRows, IsWritten, IsPainted, IsWithin}
 
 -- ---- what is in a set is known
 abbrev Known : Type 0 → Type 0
@@ -80,7 +80,7 @@ row_cell n r j k p fits on_y on_z cell from below =
     record { on_x = record { from = omega arith; below = omega arith }; row = same.1; layer = same.2 }
 
 row_painted : (n : Counts) (r : CellRange) (j k value : ℕ) (old new : List ℕ) → FitsIn n r → j < n Y → k < n Z →
-    IsFilled (cell_number n r.from.i j k) (cell_number n r.from.i j k + (r.to.i - r.from.i)) value old new → IsPainted n (InRow r j k) value old new
+    IsWritten (cell_number n r.from.i j k) (cell_number n r.from.i j k + (r.to.i - r.from.i)) value old new → IsPainted n (InRow r j k) value old new
 row_painted n r j k value old new fits on_y on_z filled =
     record {
       same_length = filled.same_length;
@@ -101,7 +101,7 @@ row_painted n r j k value old new fits on_y on_z filled =
 -- ---- rows make a layer
 pub one_row_more : (n : Counts) (r : CellRange) (j k value : ℕ) (old mid new : List ℕ) → FitsIn n r → r.from.j ≤ j → j < r.to.j → k < n Z →
     IsPainted n (InRows r j k) value old mid →
-    IsFilled (cell_number n r.from.i j k) (cell_number n r.from.i j k + (r.to.i - r.from.i)) value mid new →
+    IsWritten (cell_number n r.from.i j k) (cell_number n r.from.i j k + (r.to.i - r.from.i)) value mid new →
     IsPainted n (InRows r (j + 1) k) value old new
 one_row_more n r j k value old mid new fits from below on_z before filled =
     let end : r.to.j ≤ n Y = fits.end_y in

@@ -72,13 +72,10 @@ pub record HasHolders (boxes : List SpaceBox) (table : List ℕ) : Type 0 where
   pub holds : (p : Place) (e : SpaceBox) → IsBaseCell boxes p → HoldsCorner boxes p (slice_index_or boxes (holder boxes table p) e)
 
 -- ---- what fills the boxes
--- a solid box has a material of the list
-abbrev pub is_filled : List Material → Content → Type 0
-is_filled materials (content.Solid material) = material < length materials
-is_filled materials (content.Air environment rs) = Unit {0}
-
-abbrev pub IsFilled : List Material → SpaceBox → Type 0
-IsFilled materials b = is_filled materials b.content
+-- what is filled with a material is so with one of the list
+abbrev pub HasMaterial : List Material → Content → Type 0
+HasMaterial materials (content.Solid material) = material < length materials
+HasMaterial materials (content.Air environment rs) = Unit {0}
 
 -- what fills a box, with the conductivity of its material
 abbrev pub filled_with : List Material → Content → Occupant

@@ -26,7 +26,7 @@ pub record FitsIn (n : Counts) (r : CellRange) : Type 0 where
   pub end_z : r.to.k ≤ n Z
 
 -- from one number up to another a list has a value, and elsewhere what it had
-pub record IsFilled (from to value : ℕ) (old new : List ℕ) : Type 0 where
+pub record IsWritten (from to value : ℕ) (old new : List ℕ) : Type 0 where
   pub same_length : length new ≡ length old
   pub hit : (n : ℕ) → from ≤ n → n < to → slice_index new n ≡ value
   pub low : (n : ℕ) → n < from → slice_index new n ≡ slice_index old n

@@ -81,7 +81,8 @@ above_face m f =
 abbrev pub kind_at : Mesh → FacePlace → FaceKind
 kind_at m f = kind m f.axis (index_along f.axis f.place) (index_along (second f.axis) f.place) (index_along (third f.axis) f.place)
 
--- an occupant as a content. The kind of a face doesn't depend on which solid lies at it
+-- an occupant as a content, with the conductivity in the material's place: which solid lies at a face makes no
+-- difference to its kind
 abbrev pub content_of : Occupant → Content
 content_of (Solid lambda) = content.Solid lambda
 content_of (Air environment rs) = content.Air environment rs

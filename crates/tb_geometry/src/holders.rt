@@ -67,7 +67,7 @@ fn paint_boxes(table: &mut [u16], base: &Grid, boxes: &[SpaceBox])
     }
 }
 
-// The place of a box that holds it for each base cell, the later box where there are two.
+// For each base cell, in the order of cell numbers, the place of the last box that holds it, or the mark.
 fn holders(alloc: Global, base: &Grid, boxes: &[SpaceBox]) -> Result<Vec<u16>, AllocError>
     requires base { base.now ≡ base_axes boxes.now }
     requires boxes { AreBoxes boxes.now }
@@ -85,7 +85,7 @@ fn first_free(table: &[u16]) -> Option<usize>
     table.iter().position(|holder| *holder == FREE)
 }
 
-/// A place of a box that holds it for each base cell, in the order of cell numbers.
+/// For each base cell, in the order of cell numbers, the place of a box that holds it.
 ///
 /// # Errors
 /// `Uncovered` at the first base cell that is in no box.

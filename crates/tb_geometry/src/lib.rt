@@ -3,6 +3,9 @@
 //! [`Body::new`] judges a detail. A body that it accepts has at least two environments and a solid box, its
 //! boxes share no volume and leave none of their hull free, its base grid, which has a line at each box
 //! coordinate, isn't too large, and each solid part has a surface.
+//!
+//! [`Body::carries`] tells which grids refine a body. Of such a grid [`Body::occupant`] says what fills a cell, and
+//! [`Body::kind`] what a face is, as `tb_model` defines it by the box that contains a cell's middle.
 #![tactic(auto)]
 
 mod base;

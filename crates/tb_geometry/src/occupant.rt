@@ -1,6 +1,6 @@
 // What fills the boxes of a body.
 ghost use Rattle.std.specs.Prelude.{◌≡◌, All, IfOk, map};
-ghost use Rattle.tb_geometry.specs.Bodies.{IsFilled, occupant_of};
+ghost use Rattle.tb_geometry.specs.Bodies.{HasMaterial, occupant_of};
 
 use std::alloc::{AllocError, Global};
 use tb_detail::{Content, Material, SpaceBox};
@@ -15,7 +15,7 @@ pub enum Occupant {
 
 // What fills a box.
 fn filling(materials: &[Material], b: &SpaceBox) -> Occupant
-    requires { IsFilled materials.now b.now }
+    requires { HasMaterial materials.now b.now.content }
     ensures { result ≡ occupant_of materials.now b.now }
 {
     match b.content {
@@ -32,7 +32,7 @@ pub fn occupants(
     materials: &[Material],
     boxes: &[SpaceBox],
 ) -> Result<Vec<Occupant>, AllocError>
-    requires { All (IsFilled materials.now) boxes.now }
+    requires { All (λ b. HasMaterial materials.now b.content) boxes.now }
     ensures { IfOk result (λ all. all.items ≡ map (occupant_of materials.now) boxes.now) }
 {
     boxes.iter().map(|b| filling(materials, b)).collect(alloc)

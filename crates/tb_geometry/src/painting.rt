@@ -2,7 +2,7 @@
 ghost use Rattle.std.specs.Prelude.{◌≡◌, ◌<◌, ◌≤◌, length};
 ghost use Rattle.tb_grid.specs.Views.{along_axes};
 ghost use Rattle.tb_places.specs.Places.{cell_count};
-ghost use Rattle.tb_geometry.specs.Painting.{FitsIn, HasCell, InLayer, IsFilled, IsPainted};
+ghost use Rattle.tb_geometry.specs.Painting.{FitsIn, HasCell, InLayer, IsWritten, IsPainted};
 
 use tb_grid::{CellCounts, GridPlace};
 
@@ -17,7 +17,7 @@ pub struct CellRange {
 fn fill(table: &mut [u16], from: usize, to: usize, number: u16)
     requires order { from ≤ to }
     requires within { to ≤ length table.old }
-    ensures { IsFilled from to number table.old table.new }
+    ensures { IsWritten from to number table.old table.new }
 {
     table[from..to].fill(number);
 }

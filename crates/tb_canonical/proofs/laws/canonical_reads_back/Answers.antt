@@ -2,7 +2,7 @@ use Rattle.std.proofs.Common.{◌∙◌, ap}
 use Rattle.tb_text.specs.Reading.{detail_reading, numbered}
 use Rattle.tb_text.specs.Records.{Row}
 use Rattle.std.specs.Prelude.{List}
-use Rattle.tb_canonical.proofs.PlainDetail.{text_reads_back}
+use Rattle.tb_canonical.proofs.PlainDetail.{canonical_plain, text_reads_back}
 use Rattle.tb_canonical.proofs.WholeReading.{canonical_reading}
 use Rattle.tb_canonical.proofs.laws.canonical_reads_back.Goals as goal
 
@@ -15,3 +15,6 @@ returns-clause-text c = text_reads_back
 pub returns-clause-whole : goal.returns-clause-whole
 returns-clause-whole c = λ number first d h.
     ap (λ (rows : List Row). detail_reading number (numbered first rows)) (text_reads_back d h) ∙ canonical_reading number first d h
+
+pub returns-clause-plain : goal.returns-clause-plain
+returns-clause-plain c = canonical_plain
