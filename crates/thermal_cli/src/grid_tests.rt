@@ -1,7 +1,8 @@
 // A body on a grid with lines between its base lines, compared with the plain program, which looks for the
 // box of each cell.
-ghost use Rattle.std.specs.Prelude.{◌≡◌, ◌<◌, ◌≤◌, IsTrue, length};
+ghost use Rattle.std.specs.Prelude.{◌≡◌, ◌<◌, ◌≤◌, IfOk, IsTrue, length};
 ghost use Rattle.tb_places.specs.Places.{IsCell, cell_count, face_count};
+ghost use Rattle.tb_detail.specs.Limits.{InLimits};
 ghost use Rattle.tb_grid.specs.Grid.{counts_of};
 ghost use Rattle.tb_plain.specs.Plain.{IsFaceAt, IsPlain, mesh_of};
 ghost use Rattle.tb_geometry.specs.Seen.{CarriesBody};
@@ -114,32 +115,79 @@ fn is_same_face(body: &Body, grid: &Grid, plain: &PlainGrid, face: FaceId) -> bo
     is_face(plain, site) && body.kind(grid, face) == plain.kind(site)
 }
 
+fn are_same_cells(body: &Body, grid: &Grid, plain: &PlainGrid) -> bool
+    requires carries { CarriesBody grid.now body.now }
+    requires plain { IsPlain plain.now }
+{
+    for number in 0..grid.cells() {
+        if !is_same_cell(body, grid, plain, CellId(number)) {
+            return false;
+        }
+    }
+    true
+}
+
+fn are_same_faces(body: &Body, grid: &Grid, plain: &PlainGrid) -> bool
+    requires carries { CarriesBody grid.now body.now }
+    requires plain { IsPlain plain.now }
+{
+    for number in 0..grid.faces() {
+        if !is_same_face(body, grid, plain, FaceId(number)) {
+            return false;
+        }
+    }
+    true
+}
+
+fn finer_grid(alloc: Global) -> Result<Grid, Fail> {
+    match Grid::new(axis(alloc, &X)?, axis(alloc, &Y)?, axis(alloc, &Z)?) {
+        Ok(grid) => Ok(grid),
+        Err(_) => Err(Fail::from("no grid")),
+    }
+}
+
+fn plain_grid(alloc: Global, detail: Detail) -> Result<PlainGrid, AllocError> {
+    let x = Vec::from_slice(alloc, &X)?;
+    let y = Vec::from_slice(alloc, &Y)?;
+    let z = Vec::from_slice(alloc, &Z)?;
+    Ok(PlainGrid { detail, x, y, z })
+}
+
+fn wall(alloc: Global) -> Result<Detail, Fail>
+    ensures { IfOk result InLimits }
+{
+    match read_detail(alloc, WALL) {
+        Ok(detail) => Ok(detail),
+        Err(_) => Err(Fail::from("no detail")),
+    }
+}
+
+fn body_of(alloc: Global, detail: &Detail) -> Result<Body, Fail>
+    requires { InLimits detail.now }
+{
+    match Body::new(alloc, detail) {
+        Ok(body) => Ok(body),
+        Err(_) => Err(Fail::from("no body")),
+    }
+}
+
+// Whether the body and the plain program see the same in each cell and at each face.
+fn see_the_same(body: &Body, grid: &Grid, plain: &PlainGrid) -> bool {
+    if !body.carries(grid) {
+        return false;
+    }
+    if !plain.is_within_limits() {
+        return false;
+    }
+    are_same_cells(body, grid, plain) && are_same_faces(body, grid, plain)
+}
+
 #[test]
 fn a_finer_grid_shows_the_same_body(rt: HostRuntime) -> Result<(), Fail> {
-    let alloc = rt.alloc();
-    let Ok(detail) = read_detail(alloc, WALL) else {
-        return Err(Fail::from("no detail"));
-    };
-    let Ok(body) = Body::new(alloc, &detail) else {
-        return Err(Fail::from("no body"));
-    };
-    let (x, y, z) = (axis(alloc, &X)?, axis(alloc, &Y)?, axis(alloc, &Z)?);
-    let Ok(grid) = Grid::new(x, y, z) else {
-        return Err(Fail::from("no grid"));
-    };
-    assert!(rt; body.carries(&grid));
-    let plain = PlainGrid {
-        detail,
-        x: Vec::from_slice(alloc, &X)?,
-        y: Vec::from_slice(alloc, &Y)?,
-        z: Vec::from_slice(alloc, &Z)?,
-    };
-    assert!(rt; plain.is_within_limits());
-    for number in 0..grid.cells() {
-        assert!(rt; is_same_cell(&body, &grid, &plain, CellId(number)));
-    }
-    for number in 0..grid.faces() {
-        assert!(rt; is_same_face(&body, &grid, &plain, FaceId(number)));
-    }
+    let grid = finer_grid(rt.alloc())?;
+    let detail = wall(rt.alloc())?;
+    let body = body_of(rt.alloc(), &detail)?;
+    let plain = plain_grid(rt.alloc(), detail)?;
+    assert!(rt; see_the_same(&body, &grid, &plain));
     Ok(())
 }
