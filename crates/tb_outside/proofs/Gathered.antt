@@ -1,65 +1,75 @@
--- Texts that are gathered piece by piece beside a sink: what a writer needs who puts its pieces into a buffer.
-use Rattle.std.proofs.Common.{◌≡◌, ◌∙◌, sym, ap, refl, ◌+◌, ℕ, List, [], ◌++◌, length, take, drop, Option, Result, Ok, Err, true, is_err, arith, append_assoc, length-append}
-use Rattle.std.proofs.Math.Seq.{drop-append-add, take-append-add}
-use Rattle.std.proofs.lemmas.List.{drop-append-le, drop_all, length-take-le, take-append-drop, take-append-le, take_all}
-use Rattle.tb_outside.proofs.Known.{adds_more, adds_none}
-use Rattle.tb_outside.proofs.Pieces.{Front, front_behind, writes_behind}
-use Rattle.tb_outside.specs.Outside.{Adds, Gathers, Writes}
+-- Texts that are put into a buffer beside a sink, one after the other: what follows from the calls of a writer.
+use Rattle.std.proofs.Common.{◌≡◌, ◌∙◌, refl, ℕ, List, [], ◌++◌, Option, Some, None, Result, Ok, Err, append-nil, append_assoc}
+use Rattle.std.specs.Io.KnownBytes.{append_known}
+use Rattle.tb_outside.proofs.Known.{adds_more, adds_none, front_behind, front_more}
+use Rattle.tb_outside.specs.Buffers.{Gathers, TellsBuffer, WritesAllBut}
+use Rattle.tb_outside.specs.Faults.{Rose, Stands, TellsFaults}
+use Rattle.tb_outside.specs.Outside.{Writes, WritesFront}
 
--- where a writer begins: all that waits is still to be written
-pub gathers_none : {E : Type 0} (a : Option (List ℕ)) (waiting : List ℕ) → Gathers {E = E} a a waiting waiting (Ok tt)
-gathers_none a waiting = record { count = 0; within = omega arith; written = adds_none a; rest = refl }
+-- the same count before, or after, a rise
+pub rose_after : (a b c : ℕ) → Stands a b → Rose b c → Rose a c
+rose_after a b c same rise = rw same at rise
 
--- a text was put, and nothing waited behind it
-pub gathers_put : {E : Type 0} (a b c : Option (List ℕ)) (s t waiting : List ℕ) (r : Result (Unit {0}) E) → Adds a b s → Writes b c t r → waiting ≡ [] → Gathers a c (s ++ t) waiting r
-gathers_put a b c s t waiting (Ok u) h k none = record {
-  count = length (s ++ t);
-  within = omega arith;
-  written = rw (take_all (length (s ++ t)) (s ++ t) (omega arith)) (adds_more a b c s t h k);
-  rest = none ∙ sym (drop_all (length (s ++ t)) (s ++ t) (omega arith));
-}
-gathers_put a b c s t waiting (Err e) h k none =
-    let part : Front a c (s ++ t) = front_behind a b c s t h k in
-    record { count = part.0; within = part.1; written = part.2; rest = tt }
+pub rose_before : (a b c : ℕ) → Rose a b → Stands b c → Rose a c
+rose_before a b c rise same = rw (← same) at rise
 
--- a text was put, and then a piece waits behind it
-pub gathers_kept : {E : Type 0} (a b : Option (List ℕ)) (s t waiting : List ℕ) → Adds a b s → waiting ≡ t → Gathers {E = E} a b (s ++ t) waiting (Ok tt)
-gathers_kept a b s t waiting h same = record {
-  count = length s;
-  within = omega (arith, length-append s t);
-  written = rw (take-append-le (length s) s t (omega arith), take_all (length s) s (omega arith)) h;
-  rest = same ∙ sym (rw (drop-append-le (length s) s t (omega arith), drop_all (length s) s (omega arith)) refl);
-}
+-- no text: nothing changes
+pub gathers_none : {K : Type 0} {h : K → Option (List ℕ)} {f : K → ℕ} (a : K) (w : Option (List ℕ)) → Gathers h f a a w [] w
+gathers_none a None = record { gathered = refl }
+gathers_none {h = h} a (Some w) = record { gathered = (([], append-nil w, adds_none (h a)), refl) }
 
--- a piece behind those that were gathered
-pub gathers_more : {E : Type 0} (a b c : Option (List ℕ)) (s t w v : List ℕ) (r : Result (Unit {0}) E) → Gathers {E = E} a b s w (Ok tt) → Gathers b c (w ++ t) v r → Gathers a c (s ++ t) v r
-gathers_more a b c s t w v r h k =
-    let n = h.count in
-    let size : length (take n s) ≡ n = length-take-le n s h.within in
-    let whole : s ++ t ≡ take n s ++ (w ++ t) = rw (h.rest, ← append_assoc, take-append-drop) refl in
-    record {
-      count = length (take n s) + k.count;
-      within = omega (arith, k.within, size, h.within, length-append s t, length-append w t, ap length whole, length-append (take n s) (w ++ t));
-      written = rw (whole, take-append-add) (adds_more a b c (take n s) (take k.count (w ++ t)) h.written k.written);
-      rest = rw (whole, drop-append-add) k.rest;
-    }
+-- a text that waits whole: the sink isn't called
+pub gathers_waiting : {K : Type 0} {h : K → Option (List ℕ)} {f : K → ℕ} (a : K) (w : Option (List ℕ)) (t : List ℕ) → Gathers h f a a w t (append_known w t)
+gathers_waiting a None t = record { gathered = refl }
+gathers_waiting {h = h} a (Some w) t = record { gathered = (([], refl, adds_none (h a)), refl) }
 
--- pieces behind one that failed are not written
-pub gathers_cut : {E F : Type 0} (a b : Option (List ℕ)) (s t w v : List ℕ) (r : Result (Unit {0}) E) (q : Result (Unit {0}) F) → is_err q ≡ true → Gathers a b s w r → Gathers a b (s ++ t) v q
-gathers_cut a b s t w v r (Ok u) bad h = cc bad
-gathers_cut a b s t w v r (Err e) bad h = record {
-  count = h.count;
-  within = omega (arith, h.within, length-append s t);
-  written = rw (take-append-le h.count s t h.within) h.written;
-  rest = tt;
-}
+-- what is written of two texts, the first of which leaves a rest
+all_but_more : (a b c : Option (List ℕ)) (s t w : List ℕ) (rest last : List ℕ) → WritesAllBut a b (w ++ s) rest → WritesAllBut b c (rest ++ t) last → WritesAllBut a c (w ++ (s ++ t)) last
+all_but_more a b c s t w rest last first then =
+    (first.0 ++ then.0, rw (← append_assoc, first.1, append_assoc, then.1, append_assoc) refl, adds_more a b c first.0 then.0 first.2 then.2)
 
--- where a writer ends: what waited was put
-pub gathers_flushed : {E : Type 0} (a b c : Option (List ℕ)) (s w : List ℕ) (r : Result (Unit {0}) E) → Gathers {E = E} a b s w (Ok tt) → Writes b c w r → Writes a c s r
-gathers_flushed a b c s w r h k =
-    rw (← take-append-drop h.count s) (writes_behind a b c (take h.count s) (drop h.count s) r h.written (rw h.rest at k))
+all_but_front : (a b c : Option (List ℕ)) (s t w : List ℕ) (rest : List ℕ) → WritesAllBut a b (w ++ s) rest → WritesFront b c (rest ++ t) → WritesFront a c (w ++ (s ++ t))
+all_but_front a b c s t w rest first then =
+    rw (← append_assoc, first.1, append_assoc) (front_behind a b c first.0 (rest ++ t) first.2 then)
 
--- where a writer ends because a piece failed
-pub gathers_fault : {E F : Type 0} (a b : Option (List ℕ)) (s t w : List ℕ) (r : Result (Unit {0}) E) (q : Result (Unit {0}) F) → is_err q ≡ true → Gathers a b s w r → Writes a b (s ++ t) q
-gathers_fault a b s t w r (Ok u) bad h = cc bad
-gathers_fault a b s t w r (Err e) bad h = (h.count, omega (arith, h.within, length-append s t), rw (take-append-le h.count s t h.within) h.written)
+front_cut : (a b : Option (List ℕ)) (s t w : List ℕ) → WritesFront a b (w ++ s) → WritesFront a b (w ++ (s ++ t))
+front_cut a b s t w first = rw (← append_assoc) (front_more a b (w ++ s) t first)
+
+-- two texts, one after the other
+pub gathers_both : {K : Type 0} {h : K → Option (List ℕ)} {f : K → ℕ} {a b c : K} {u v w : Option (List ℕ)} {s t : List ℕ} → Gathers h f a b u s v → Gathers h f b c v t w → Gathers h f a c u (s ++ t) w
+gathers_both {h = h} {f = f} {a = a} {b = b} {c = c} {u = None} {v = None} {w = None} {s = s} {t = t} x y = record { gathered = y.gathered ∙ x.gathered }
+gathers_both {h = h} {f = f} {a = a} {b = b} {c = c} {u = None} {v = None} {w = Some w} {s = s} {t = t} x y = absurd y.gathered
+gathers_both {h = h} {f = f} {a = a} {b = b} {c = c} {u = None} {v = Some v} {w = w} {s = s} {t = t} x y = absurd x.gathered
+gathers_both {h = h} {f = f} {a = a} {b = b} {c = c} {u = Some u} {v = None} {w = None} {s = s} {t = t} x y =
+    record { gathered = rw y.gathered (front_cut (h a) (h b) s t u x.gathered.0, x.gathered.1) }
+gathers_both {h = h} {f = f} {a = a} {b = b} {c = c} {u = Some u} {v = None} {w = Some w} {s = s} {t = t} x y = absurd y.gathered
+gathers_both {h = h} {f = f} {a = a} {b = b} {c = c} {u = Some u} {v = Some v} {w = None} {s = s} {t = t} x y =
+    record { gathered = (all_but_front (h a) (h b) (h c) s t u v x.gathered.0 y.gathered.0, rose_after (f a) (f b) (f c) x.gathered.1 y.gathered.1) }
+gathers_both {h = h} {f = f} {a = a} {b = b} {c = c} {u = Some u} {v = Some v} {w = Some w} {s = s} {t = t} x y =
+    record { gathered = (all_but_more (h a) (h b) (h c) s t u v w x.gathered.0 y.gathered.0, y.gathered.1 ∙ x.gathered.1) }
+
+-- the same text, written in another way
+pub gathers_same : {K : Type 0} {h : K → Option (List ℕ)} {f : K → ℕ} {a b : K} {u v : Option (List ℕ)} {s t : List ℕ} → s ≡ t → Gathers h f a b u s v → Gathers h f a b u t v
+gathers_same e x = rw (← e) x
+
+-- a whole writer, the text and the flush behind an empty buffer: what was written
+pub written : {K E : Type 0} {h : K → Option (List ℕ)} {f : K → ℕ} {a b c : K} {v w : Option (List ℕ)} {t : List ℕ} (r : Result (Unit {0}) E)
+    → Gathers h f a b (Some []) t v → Gathers h f b c v [] w → TellsBuffer w r → Writes (h a) (h c) t r
+written {h = h} {f = f} {a = a} {b = b} {c = c} {v = v} {w = w} {t = t} (Ok u) x y told =
+    let all : Gathers h f a c (Some []) (t ++ []) (Some []) = rw told at (gathers_both x y) in
+    let parts = all.gathered.0 in
+    let whole : t ≡ parts.0 = simp append-nil at parts.1 in
+    rw whole parts.2
+written {h = h} {f = f} {a = a} {b = b} {c = c} {v = v} {w = w} {t = t} (Err e) x y told =
+    let all : Gathers h f a c (Some []) (t ++ []) None = rw told at (gathers_both x y) in
+    rw append-nil at all.gathered.0
+
+-- and what it tells of the faults of the sink
+pub faults_told : {K E : Type 0} {h : K → Option (List ℕ)} {f : K → ℕ} {a b c : K} {v w : Option (List ℕ)} {t : List ℕ} (r : Result (Unit {0}) E)
+    → Gathers h f a b (Some []) t v → Gathers h f b c v [] w → TellsBuffer w r → TellsFaults (f a) (f c) r
+faults_told {h = h} {f = f} {a = a} {b = b} {c = c} {v = v} {w = w} {t = t} (Ok u) x y told =
+    let all : Gathers h f a c (Some []) (t ++ []) (Some []) = rw told at (gathers_both x y) in
+    all.gathered.1
+faults_told {h = h} {f = f} {a = a} {b = b} {c = c} {v = v} {w = w} {t = t} (Err e) x y told =
+    let all : Gathers h f a c (Some []) (t ++ []) None = rw told at (gathers_both x y) in
+    all.gathered.1

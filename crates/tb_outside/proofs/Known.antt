@@ -1,8 +1,8 @@
 -- Bytes that are told, taken and added one piece after the other.
 use Rattle.std.proofs.Common.{◌≡◌, ap, refl, sym, ◌+◌, ◌-◌, ◌<◌, ◌≤◌, ℕ, min, List, [], ◌++◌, length, take, drop, Option, Some, None, arith, append_assoc}
-use Rattle.std.proofs.lemmas.List.{append-nil, drop-drop, length-append, length-drop, nil_from_length, take-append-drop, take_all}
-use Rattle.std.proofs.Math.Seq.{take-add}
-use Rattle.tb_outside.specs.Outside.{Adds, IsAtEnd, Takes, TakesAtMost}
+use Rattle.std.proofs.lemmas.List.{append-nil, drop-drop, length-append, length-drop, nil_from_length, take-append-drop, take-append-le, take_all}
+use Rattle.std.proofs.Math.Seq.{take-add, take-append-add}
+use Rattle.tb_outside.specs.Outside.{Adds, IsAtEnd, Takes, TakesAtMost, WritesFront}
 
 pub takes_none : (a : Option (List ℕ)) → Takes a a []
 takes_none None = refl
@@ -23,6 +23,14 @@ adds_none (Some xs) = rw append-nil refl
 pub adds_more : (a b c : Option (List ℕ)) (xs ys : List ℕ) → Adds a b xs → Adds b c ys → Adds a c (xs ++ ys)
 adds_more None b c xs ys h k = rw (k, h) refl
 adds_more (Some a) b c xs ys h k = rw (k, h, append_assoc) refl
+
+-- a front of a text behind one that was written whole
+pub front_behind : (a b c : Option (List ℕ)) (s t : List ℕ) → Adds a b s → WritesFront b c t → WritesFront a c (s ++ t)
+front_behind a b c s t h k = (length s + k.0, omega (arith, k.1, length-append s t), rw take-append-add (adds_more a b c s _ h k.2))
+
+-- a front of a text is a front of one that goes on
+pub front_more : (a b : Option (List ℕ)) (s t : List ℕ) → WritesFront a b s → WritesFront a b (s ++ t)
+front_more a b s t f = (f.0, omega (arith, f.1, length-append s t), rw (take-append-le f.0 s t f.1) f.2)
 
 -- the slice from a place to the end, as goals show it
 pub all_left : (s : List ℕ) (i : ℕ) → take (length s - i) (drop i s) ≡ drop i s

@@ -1,4 +1,3 @@
 pub mod Each
 pub mod Gathered
 pub mod Known
-pub mod Pieces

@@ -1,6 +1,6 @@
 -- A sink in memory as contracts see it.
 use Rattle.std.specs.Prelude.{◌⊎◌, ◌<◌, ◌≤◌, ℕ, List, length, Contains}
-use Rattle.tb_outside.specs.Outside.{counted_up}
+use Rattle.tb_outside.specs.Faults.{counted_up}
 
 -- the bytes written so far and how many there is room for in all; the numbers of the calls that fail, from 1, and how many calls there were; how many failed
 pub record MemoryState : Type 0 where

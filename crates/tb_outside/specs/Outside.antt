@@ -1,5 +1,5 @@
--- What sources and sinks do to the bytes that they tell, and to their counts of faults.
-use Rattle.std.specs.Prelude.{◌≡◌, ◌⊎◌, ◌+◌, ◌-◌, ◌^◌, ◌<◌, ◌≤◌, ◌++◌, ℕ, min, List, take, drop, length, Option, Result, Ok, Err, IsErr, OnOk}
+-- What sources and sinks do to the bytes that they tell.
+use Rattle.std.specs.Prelude.{◌≡◌, ◌<◌, ◌≤◌, ◌++◌, ℕ, List, take, length, Option, Result, Ok, Err}
 use Rattle.std.specs.Io.KnownBytes.{append_known, prepend_known}
 use Rattle.tb_outside.specs.declared.Failed.{Failed}
 -- nothing is left, where the bytes are told
@@ -31,28 +31,6 @@ abbrev pub Puts : Option (List ℕ) → Option (List ℕ) → List ℕ → Resul
 Puts old new piece (Ok n) = (n ≤ length piece) × (0 < length piece → 0 < n) × Adds old new (take n piece)
 Puts old new piece (Err e) = new ≡ old
 
--- the last value of a count of faults or of calls, where it stays
-abbrev pub last_count : ℕ
-last_count = 2 ^ 64 - 1
-
--- one more
-abbrev pub counted_up : ℕ → ℕ
-counted_up count = min (count + 1) last_count
-
--- the count of faults rose, or stands at its last value
-abbrev pub Rose : ℕ → ℕ → Type 0
-Rose before now = (before < now) ⊎ (last_count ≤ now)
-
--- the count never falls, and rose where the call failed
-pub record HasCause {T E : Type 0} (before now : ℕ) (result : Result T E) : Type 0 where
-  pub later : before ≤ now
-  pub failed : IsErr result → Rose before now
-
--- one more fault for a call that failed
-abbrev pub faults_after : {T E : Type 0} → ℕ → Result T E → ℕ
-faults_after before (Ok x) = before
-faults_after before (Err e) = counted_up before
-
 -- a read put n more bytes behind those that were kept before
 pub record ReadMore (old new : Option (List ℕ)) (kept grown : List ℕ) (room n : ℕ) : Type 0 where
   pub piece : List ℕ
@@ -62,14 +40,11 @@ pub record ReadMore (old new : Option (List ℕ)) (kept grown : List ℕ) (room 
   pub fits : n ≤ room
   pub end : n ≡ 0 → IsAtEnd new
 
+-- a front of the text was appended
+abbrev pub WritesFront : Option (List ℕ) → Option (List ℕ) → List ℕ → Type 0
+WritesFront old new text = (n : ℕ) × (n ≤ length text) × Adds old new (take n text)
+
 -- the whole text was appended, or a front of it where the sink failed
 abbrev pub Writes : {E : Type 0} → Option (List ℕ) → Option (List ℕ) → List ℕ → Result (Unit {0}) E → Type 0
 Writes old new text (Ok u) = Adds old new text
-Writes old new text (Err e) = (n : ℕ) × (n ≤ length text) × Adds old new (take n text)
-
--- a front of the text was appended, and where no sink failed the rest of it waits
-pub record Gathers {E : Type 0} (old new : Option (List ℕ)) (text waiting : List ℕ) (result : Result (Unit {0}) E) : Type 0 where
-  pub count : ℕ
-  pub within : count ≤ length text
-  pub written : Adds old new (take count text)
-  pub rest : OnOk result (waiting ≡ drop count text)
+Writes old new text (Err e) = WritesFront old new text

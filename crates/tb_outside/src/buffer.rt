@@ -1,7 +1,8 @@
 // A buffer between a writer of many small pieces and a sink.
-ghost use Rattle.std.specs.Prelude.{◌≡◌, ◌+◌, ◌≤◌, ◌++◌, ◌↔◌, [], length, IsTrue, IsOk, OnErr};
+ghost use Rattle.std.specs.Prelude.{◌≡◌, ◌+◌, ◌≤◌, ◌++◌, ◌↔◌, [], Some, None, length, IfSome, IsTrue, IsOk};
+ghost use Rattle.std.specs.Io.KnownBytes.{append_known};
 ghost use Rattle.std.specs.List.{flat_map};
-ghost use Rattle.tb_outside.specs.Outside.{Gathers, HasCause, Writes};
+ghost use Rattle.tb_outside.specs.Buffers.{Gathers, TellsBuffer};
 
 use crate::{Sink, SinkFault, put_all};
 use std::marker::Model;
@@ -10,23 +11,25 @@ use std::marker::Model;
 pub const BUFFER_SIZE: usize = 4096;
 
 /// Gathers small pieces before they are put into a sink, so that the sink sees few calls. It lies beside the sink and
-/// takes no memory from the heap. Contracts see it as the bytes that wait.
+/// takes no memory from the heap. It remembers a fault of the sink: from then on pieces are dropped, the sink isn't
+/// called, and `flush` tells the fault.
 ///
-/// A writer takes one that is empty, puts its pieces and ends with `flush`. A fault at any of these is the writer's
-/// own, and it ends with it: nothing waits then.
+/// A writer puts its pieces into a buffer and answers nothing. Whoever made the buffer ends with `flush`. Contracts see
+/// the buffer as the bytes that wait, or as `None` after a fault.
 #[derive(Debug, Drop)]
 pub struct OutputBuffer {
     bytes: [u8; BUFFER_SIZE],
     len: usize,
+    has_failed: bool,
 }
 
 impl Model for OutputBuffer {
-    ghost use Rattle.std.specs.Prelude.{List, ℕ, ◌≤◌, take};
+    ghost use Rattle.std.specs.Prelude.{List, Option, Some, None, ℕ, ◌≤◌, take, if◌then◌else◌};
     ghost use Rattle.tb_outside.specs.declared.buffer.TheConstants.{BUFFER_SIZE};
 
-    ghost Value = { List ℕ };
+    ghost Value = { Option (List ℕ) };
 
-    ghost view = { λ b. take b.len b.bytes };
+    ghost view = { λ b. (if b.has_failed then None else Some (take b.len b.bytes)) };
 
     ghost invariant = { λ b. b.len ≤ BUFFER_SIZE };
 }
@@ -34,80 +37,100 @@ impl Model for OutputBuffer {
 impl OutputBuffer {
     /// An empty buffer.
     pub fn new() -> OutputBuffer
-        ensures { result ≡ [] }
+        ensures { result ≡ Some [] }
     {
         OutputBuffer {
             bytes: [0; BUFFER_SIZE],
             len: 0,
+            has_failed: false,
         }
     }
 
     /// Appends a piece to what waits. Where it doesn't fit, what waits goes into the sink first, and so does a piece
     /// that is longer than the buffer.
-    pub fn put<K: Sink>(&mut self, sink: &mut K, piece: &[u8]) -> Result<(), SinkFault>
-        ensures gathers { Gathers (K.holds sink.old) (K.holds sink.new) (self.old ++ piece.now) self.new result }
-        ensures cause { HasCause (K.faults sink.old) (K.faults sink.new) result }
-        ensures fault { OnErr result (self.new ≡ []) }
+    pub fn put<K: Sink>(&mut self, sink: &mut K, piece: &[u8])
+        ensures gathers { Gathers K.holds K.faults sink.old sink.new self.old piece.now self.new }
 
         // A piece that fits waits, and the sink isn't called.
-        ensures fits { length self.old + length piece.now ≤ BUFFER_SIZE
-            → IsOk result × (sink.new ≡ sink.old) × (self.new ≡ self.old ++ piece.now) }
+        ensures fits { (waiting : _) → self.old ≡ Some waiting → length waiting + length piece.now ≤ BUFFER_SIZE
+            → (sink.new ≡ sink.old) × (self.new ≡ Some (waiting ++ piece.now)) }
     {
         if self.has_room(piece) {
             self.append(piece);
-            return Ok(());
+            return;
         }
-        self.flush(sink)?;
+        self.put_waiting(sink);
         if self.has_room(piece) {
             self.append(piece);
-            return Ok(());
+            return;
         }
-        put_all(sink, piece)
+        self.put_at_once(sink, piece);
     }
 
     /// Puts several pieces, one behind the other.
-    pub fn put_pieces<K: Sink>(&mut self, sink: &mut K, pieces: &[&[u8]]) -> Result<(), SinkFault>
-        ensures gathers { Gathers (K.holds sink.old) (K.holds sink.new)
-            (self.old ++ flat_map (λ p. p.now) pieces.now) self.new result }
-        ensures cause { HasCause (K.faults sink.old) (K.faults sink.new) result }
-        ensures fault { OnErr result (self.new ≡ []) }
+    pub fn put_pieces<K: Sink>(&mut self, sink: &mut K, pieces: &[&[u8]])
+        ensures { Gathers K.holds K.faults sink.old sink.new self.old (flat_map (λ p. p.now) pieces.now) self.new }
     {
         for piece in pieces {
-            self.put(sink, piece)?;
+            self.put(sink, piece);
         }
-        Ok(())
     }
 
-    /// Puts all that waits into the sink. Nothing waits afterwards, also where the sink failed.
+    /// Puts all that waits into the sink, and answers whether every put since the buffer was made went well.
     pub fn flush<K: Sink>(&mut self, sink: &mut K) -> Result<(), SinkFault>
-        ensures writes { Writes (K.holds sink.old) (K.holds sink.new) self.old result }
-        ensures cause { HasCause (K.faults sink.old) (K.faults sink.new) result }
-        ensures empty { self.new ≡ [] }
-        ensures idle { self.old ≡ [] → IsOk result × (sink.new ≡ sink.old) }
+        ensures gathers { Gathers K.holds K.faults sink.old sink.new self.old [] self.new }
+        ensures tells { TellsBuffer self.new result }
+        ensures idle { self.old ≡ Some [] → IsOk result × (sink.new ≡ sink.old) }
     {
-        let result = put_all(sink, &self.bytes[..self.len]);
-        self.len = 0;
-        result
+        self.put_waiting(sink);
+        if self.has_failed {
+            Err(SinkFault)
+        } else {
+            Ok(())
+        }
+    }
+
+    // Puts all that waits into the sink.
+    fn put_waiting<K: Sink>(&mut self, sink: &mut K)
+        ensures gathers { Gathers K.holds K.faults sink.old sink.new self.old [] self.new }
+        ensures empty { IfSome self.new (λ waiting. waiting ≡ []) }
+        ensures idle { self.old ≡ Some [] → (self.new ≡ Some []) × (sink.new ≡ sink.old) }
+    {
+        if !self.has_failed {
+            self.has_failed = put_all(sink, &self.bytes[..self.len]).is_err();
+            self.len = 0;
+        }
+    }
+
+    // Puts a piece into the sink, where nothing waits.
+    fn put_at_once<K: Sink>(&mut self, sink: &mut K, piece: &[u8])
+        requires { IfSome self.old (λ waiting. waiting ≡ []) }
+        ensures { Gathers K.holds K.faults sink.old sink.new self.old piece.now self.new }
+    {
+        self.has_failed = self.has_failed || put_all(sink, piece).is_err();
     }
 
     fn has_room(&self, piece: &[u8]) -> bool
-        ensures { IsTrue result ↔ (length self.now + length piece.now ≤ BUFFER_SIZE) }
+        ensures { IfSome self.now (λ waiting.
+            IsTrue result ↔ (length waiting + length piece.now ≤ BUFFER_SIZE)) }
     {
         piece.len() <= BUFFER_SIZE - self.len
     }
 
     fn append(&mut self, piece: &[u8])
-        requires { length self.old + length piece.now ≤ BUFFER_SIZE }
-        ensures { self.new ≡ self.old ++ piece.now }
+        requires { IfSome self.old (λ waiting. length waiting + length piece.now ≤ BUFFER_SIZE) }
+        ensures { self.new ≡ append_known self.old piece.now }
     {
-        let end = self.len + piece.len();
-        self.bytes[self.len..end].copy_from_slice(piece);
-        self.len = end;
+        if !self.has_failed {
+            let end = self.len + piece.len();
+            self.bytes[self.len..end].copy_from_slice(piece);
+            self.len = end;
+        }
     }
 }
 
 impl Default for OutputBuffer {
-    ghost is_default = { λ b. b ≡ [] };
+    ghost is_default = { λ b. b ≡ Some [] };
 
     fn default() -> OutputBuffer {
         OutputBuffer::new()

@@ -2,7 +2,8 @@
 //!
 //! A [`Source`] gives bytes and a [`Sink`] takes them. Either may fail, and counts each failure, so that an
 //! answer that names a fault has a cause that can be seen from outside. [`read_all`] reads a source to its end,
-//! [`put_all`] appends a piece whole, and an [`OutputBuffer`] gathers small pieces beside a sink.
+//! [`put_all`] appends a piece whole, and an [`OutputBuffer`] gathers small pieces beside a sink, remembers a fault and
+//! tells it at its flush. A [`Text`] is written through such a buffer by [`write_text`].
 #![tactic(auto)]
 
 mod buffer;
@@ -12,12 +13,14 @@ mod source;
 mod stream;
 #[cfg(test)]
 mod tests;
+mod text;
 
 pub use buffer::{BUFFER_SIZE, OutputBuffer};
 pub use memory::{MemorySink, SteadySource};
 pub use sink::{Sink, SinkFault, put_all};
-pub use source::{InFault, Source, read_all};
+pub use source::{InFault, MOST_INPUT_BYTES, Source, read_all};
 pub use stream::{StdSink, StdSource};
+pub use text::{Text, write_text};
 use thiserror::Error;
 
 /// One call of a source or a sink failed.

@@ -1,6 +1,7 @@
 // A source and a sink in memory.
-ghost use Rattle.std.specs.Prelude.{◌≡◌, ◌-◌, ◌↔◌, min, [], length, Some, take, IfOk, IsErr, IsOk};
-ghost use Rattle.tb_outside.specs.Outside.{HasCause, Puts, Reads, counted_up, faults_after};
+ghost use Rattle.std.specs.Prelude.{◌≡◌, ◌-◌, ◌↔◌, min, [], length, Some, take, IfOk, IsErr};
+ghost use Rattle.tb_outside.specs.Faults.{TellsFaults, counted_up, faults_after};
+ghost use Rattle.tb_outside.specs.Outside.{Puts, Reads};
 ghost use Rattle.tb_outside.specs.MemoryState.{MustFail};
 
 use crate::{Failed, NoMemory, Sink, Source};
@@ -41,8 +42,8 @@ impl Source for SteadySource {
     /// Gives as many bytes as there are and as fit.
     fn read(&mut self, buf: &mut [u8]) -> Result<usize, Failed>
         ensures reads { Reads (Some self.old) (Some self.new) buf.new result }
-        ensures cause { HasCause 0 0 result }
-        ensures steady { IsOk result }
+        ensures faults { TellsFaults 0 0 result }
+        ensures gives { result ≡ Ok (min (length buf.old) (length self.old)) }
     {
         let n = copy_front(&self.bytes[self.at..], buf);
         self.at += n;
@@ -127,7 +128,7 @@ impl Sink for MemorySink {
     /// Takes as much of the piece as there is room for.
     fn put(&mut self, piece: &[u8]) -> Result<usize, Failed>
         ensures puts { Puts (Some self.old.written) (Some self.new.written) piece.now result }
-        ensures cause { HasCause self.old.faults self.new.faults result }
+        ensures faults { TellsFaults self.old.faults self.new.faults result }
 
         // It fails exactly where it must, and a piece that fits in part is taken in part.
         ensures failed { IsErr result ↔ MustFail self.old piece.now }

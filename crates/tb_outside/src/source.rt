@@ -1,7 +1,8 @@
 // Sources of bytes.
 ghost use Rattle.std.specs.Prelude.{◌≡◌, ◌+◌, ◌^◌, ◌<◌, ◌≤◌, ℕ, List, Option, length, vec_len};
 ghost use Rattle.std.specs.Prelude.{IfOk, OnOk, IsErrOf};
-ghost use Rattle.tb_outside.specs.Outside.{HasCause, IsAtEnd, Reads, ReadMore, Rose};
+ghost use Rattle.tb_outside.specs.Faults.{TellsFaults, TellsSourceFault};
+ghost use Rattle.tb_outside.specs.Outside.{IsAtEnd, Reads, ReadMore};
 ghost use Rattle.tb_outside.specs.Outside.{Takes, TakesAtMost, TakesExactly};
 
 use crate::Failed;
@@ -17,10 +18,10 @@ pub trait Source {
     ghost faults: { Self → ℕ };
 
     /// Writes the next bytes to the front of `buf`, and answers how many: at least one, unless `buf` is empty or
-    /// nothing is left. A call that fails takes nothing and raises the count of faults.
+    /// nothing is left. A call that fails takes nothing and raises the count of faults, and no other call changes it.
     fn read(&mut self, buf: &mut [u8]) -> Result<usize, Failed>
         ensures reads { Reads (left self.old) (left self.new) buf.new result }
-        ensures cause { HasCause (faults self.old) (faults self.new) result };
+        ensures faults { TellsFaults (faults self.old) (faults self.new) result };
 }
 
 /// Why a source was not read to its end.
@@ -37,7 +38,10 @@ pub enum InFault {
     NoMemory,
 }
 
-/// How many bytes are read at a time.
+/// The most bytes that an input may have: 256 MiB. Definitions call it `most_input_bytes`.
+pub const MOST_INPUT_BYTES: usize = 268_435_456;
+
+// How many bytes are read at a time.
 const CHUNK: usize = 4096;
 
 /// Reads a source to its end, if it has at most `limit` bytes. Else one byte more than `limit` is taken.
@@ -54,8 +58,8 @@ pub fn read_all<S: Source>(alloc: Global, source: &mut S, limit: usize) -> Resul
         → TakesAtMost (S.left source.old) (S.left source.new) limit }
     ensures taken { TakesAtMost (S.left source.old) (S.left source.new) (limit + 1) }
 
-    ensures fault { IsErrOf result InFault.SourceFault → Rose (S.faults source.old) (S.faults source.new) }
-    ensures later { S.faults source.old ≤ S.faults source.new }
+    // A read that failed isn't tried again, and it is told.
+    ensures faults { TellsSourceFault (S.faults source.old) (S.faults source.new) result }
 {
     let mut bytes = Vec::new(alloc);
     let mut chunk = [0u8; CHUNK];
@@ -79,9 +83,8 @@ fn read_more<S: Source>(
         bytes.new.items (length chunk.old) n) }
     ensures taken { TakesAtMost (S.left source.old) (S.left source.new) (length chunk.old) }
     ensures none { IsErrOf result InFault.SourceFault → S.left source.new ≡ S.left source.old }
-    ensures fault { IsErrOf result InFault.SourceFault → Rose (S.faults source.old) (S.faults source.new) }
+    ensures faults { TellsSourceFault (S.faults source.old) (S.faults source.new) result }
     ensures not_long { IsErrOf result InFault.TooLong → ⊥ }
-    ensures later { S.faults source.old ≤ S.faults source.new }
 {
     match source.read(chunk) {
         Ok(n) => match bytes.extend_from_slice(&chunk[..n]) {

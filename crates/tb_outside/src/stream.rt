@@ -1,8 +1,9 @@
 // The trusted edge: std's readers and writers, whose bytes no contract tells.
-ghost use Rattle.std.specs.Prelude.{◌≡◌, ℕ, None};
+ghost use Rattle.std.specs.Prelude.{◌≡◌, ℕ, None, Ok, []};
 ghost use Rattle.std.specs.Io.KnownBytes.{ReadConsumes, WriteAppends};
 ghost use Rattle.tb_outside.specs.Counted.{Counted};
-ghost use Rattle.tb_outside.specs.Outside.{HasCause, Puts, Reads, faults_after};
+ghost use Rattle.tb_outside.specs.Faults.{TellsFaults, faults_after};
+ghost use Rattle.tb_outside.specs.Outside.{Puts, Reads};
 
 use crate::{Failed, Sink, Source};
 use std::io::{Read, Write};
@@ -39,7 +40,7 @@ impl<R: Read> Source for StdSource<R> {
     /// One read of the reader. At its last value, 2^64 - 1, the count stays.
     fn read(&mut self, buf: &mut [u8]) -> Result<usize, Failed>
         ensures reads { Reads None None buf.new result }
-        ensures cause { HasCause self.old.faults self.new.faults result }
+        ensures faults { TellsFaults self.old.faults self.new.faults result }
         ensures count { self.new.faults ≡ faults_after self.old.faults result }
 
         // Where the reader itself tells its bytes, it is those that are given.
@@ -86,8 +87,11 @@ impl<W: Write> Sink for StdSink<W> {
     /// One write of the writer, or none where the piece is empty. At its last value, 2^64 - 1, the count stays.
     fn put(&mut self, piece: &[u8]) -> Result<usize, Failed>
         ensures puts { Puts None None piece.now result }
-        ensures cause { HasCause self.old.faults self.new.faults result }
+        ensures faults { TellsFaults self.old.faults self.new.faults result }
         ensures count { self.new.faults ≡ faults_after self.old.faults result }
+
+        // An empty piece needs no write.
+        ensures idle { piece.now ≡ [] → (result ≡ Ok 0) × (self.new ≡ self.old) }
 
         // Where the writer itself tells its bytes, it is the piece's that are appended.
         ensures bytes { WriteAppends (W.contents self.old.inner) (W.contents self.new.inner) result piece.now }

@@ -1,7 +1,7 @@
 // Reading and writing over memory and over std's readers and writers, with failures in mid-stream.
 ghost use Rattle.std.specs.Prelude.{◌∷◌, ◌++◌, [], None};
 ghost use Rattle.std.specs.List.{flat_map};
-ghost use Rattle.tb_outside.specs.Outside.{Gathers, HasCause, Writes};
+ghost use Rattle.tb_outside.specs.Buffers.{Gathers};
 
 use crate::*;
 use std::alloc::{AllocError, Global};
@@ -126,53 +126,61 @@ impl Sink for Narrow {
     }
 }
 
-fn put_cells<K: Sink>(
-    buffer: &mut OutputBuffer,
-    sink: &mut K,
-    values: &[u8],
-) -> Result<(), SinkFault>
-    ensures gathers { Gathers (K.holds sink.old) (K.holds sink.new)
-        (buffer.old ++ flat_map (λ v. 44 ∷ v ∷ []) values.now) buffer.new result }
-    ensures cause { HasCause (K.faults sink.old) (K.faults sink.new) result }
-{
-    for value in values {
-        buffer.put_pieces(sink, &[b",", &[*value]])?;
-    }
-    Ok(())
+// Values behind commas, in brackets: a writer of one record, of a list, and of one behind the other.
+#[derive(Drop)]
+struct Cells<'a> {
+    values: &'a [u8],
 }
 
-// Writes each value behind a comma: the pattern of a writer that goes through a buffer.
-fn write_cells<K: Sink>(sink: &mut K, values: &[u8]) -> Result<(), SinkFault>
-    ensures writes { Writes (K.holds sink.old) (K.holds sink.new) (flat_map (λ v. 44 ∷ v ∷ []) values.now) result }
-    ensures cause { HasCause (K.faults sink.old) (K.faults sink.new) result }
+fn put_cell<K: Sink>(buffer: &mut OutputBuffer, sink: &mut K, value: u8)
+    ensures { Gathers K.holds K.faults sink.old sink.new buffer.old (44 ∷ value ∷ []) buffer.new }
 {
-    let mut buffer = OutputBuffer::new();
-    put_cells(&mut buffer, sink, values)?;
-    buffer.flush(sink)
+    buffer.put_pieces(sink, &[b",", &[value]]);
+}
+
+fn put_cells<K: Sink>(buffer: &mut OutputBuffer, sink: &mut K, values: &[u8])
+    ensures { Gathers K.holds K.faults sink.old sink.new buffer.old
+        (flat_map (λ v. 44 ∷ v ∷ []) values.now) buffer.new }
+{
+    for value in values {
+        put_cell(buffer, sink, *value);
+    }
+}
+
+impl Text for Cells<'_> {
+    ghost text = { λ cells. 40 ∷ flat_map (λ v. 44 ∷ v ∷ []) cells.values.now ++ 41 ∷ [] };
+
+    fn put<K: Sink>(&self, buffer: &mut OutputBuffer, sink: &mut K) {
+        buffer.put(sink, b"(");
+        put_cells(buffer, sink, self.values);
+        buffer.put(sink, b")");
+    }
 }
 
 #[test]
 fn a_buffered_text_is_written_whole_or_its_front(rt: HostRuntime) -> Result<(), Fail> {
     let values = counted_bytes(rt.alloc(), 3000)?;
     let mut text = Vec::new(rt.alloc());
+    text.push(b'(')?;
     for value in &values {
         text.push(b',')?;
         text.push(*value)?;
     }
+    text.push(b')')?;
     // The call that fails, and how many bytes are written in all.
     for (fails, written) in [
-        (0, 6000),
+        (0, 6002),
         (1, 0),
         (4096, 4095),
         (4097, 4096),
-        (6000, 5999),
-        (6001, 6000),
+        (6002, 6001),
+        (6003, 6002),
     ] {
         let inner = MemorySink::new(rt.alloc(), 10_000, vec![in rt.alloc(); fails]?)?;
         let mut sink = Narrow { inner };
         assert_eq!(rt;
-            write_cells(&mut sink, &values).is_ok(),
-            written == 6000,
+            write_text(&Cells { values: &values }, &mut sink).is_ok(),
+            written == 6002,
             "call {fails}"
         );
         assert!(rt; text.starts_with(sink.inner.bytes()), "call {fails}");
@@ -186,14 +194,27 @@ fn a_long_piece_goes_behind_what_waits(rt: HostRuntime) -> Result<(), Fail> {
     let long = counted_bytes(rt.alloc(), 5000)?;
     let mut sink = MemorySink::new(rt.alloc(), 6000, Vec::new(rt.alloc()))?;
     let mut buffer = OutputBuffer::new();
-    buffer.put(&mut sink, b"he")?;
+    buffer.put(&mut sink, b"he");
     assert_eq!(rt; sink.bytes().len(), 0);
-    buffer.put_pieces(&mut sink, &[b"ad", &long, b"tail"])?;
+    buffer.put_pieces(&mut sink, &[b"ad", &long, b"tail"]);
     assert_eq!(rt; sink.bytes().len(), 5004);
     buffer.flush(&mut sink)?;
     assert_eq!(rt; sink.bytes().len(), 5008);
     assert!(rt; sink.bytes().starts_with(b"head"));
     assert!(rt; sink.bytes().ends_with(b"tail"));
+    Ok(())
+}
+
+#[test]
+fn a_buffer_keeps_a_fault_and_calls_the_sink_no_more(rt: HostRuntime) -> Result<(), Fail> {
+    let long = counted_bytes(rt.alloc(), 5000)?;
+    let mut sink = MemorySink::new(rt.alloc(), 20_000, vec![in rt.alloc(); 2]?)?;
+    let mut buffer = OutputBuffer::new();
+    buffer.put_pieces(&mut sink, &[&long, &long, &long, b"tail"]);
+    assert_eq!(rt; buffer.flush(&mut sink), Err(SinkFault));
+    buffer.put(&mut sink, b"more");
+    assert_eq!(rt; buffer.flush(&mut sink), Err(SinkFault));
+    assert_eq!(rt; sink.bytes(), long.as_slice());
     Ok(())
 }
 

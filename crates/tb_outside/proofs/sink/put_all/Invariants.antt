@@ -1,4 +1,5 @@
 use Rattle.std.proofs.Common.{◌≡◌, [], length, take, ◌-◌, ◌≤◌}
+use Rattle.tb_outside.specs.Faults.{Stands}
 use Rattle.tb_outside.specs.Outside.{Adds}
 use Rattle.tb_outside.proofs.sink.put_all.Given as goal
 
@@ -7,7 +8,7 @@ abbrev pub invariant-loop-at : goal.invariant-loop-at
 invariant-loop-at g l = record {
   within : l.at ≤ length l.piece;
   so_far : Adds (g.K.Sink.holds l.fn.sink) (g.K.Sink.holds l.sink) (take l.at l.piece);
-  later : g.K.Sink.faults l.fn.sink ≤ g.K.Sink.faults l.sink;
+  stands : Stands (g.K.Sink.faults l.fn.sink) (g.K.Sink.faults l.sink);
   idle : l.piece ≡ [] → l.sink ≡ l.fn.sink;
 }
 
