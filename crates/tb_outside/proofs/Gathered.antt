@@ -6,12 +6,9 @@ use Rattle.tb_outside.specs.Buffers.{Gathers, TellsBuffer, WritesAllBut}
 use Rattle.tb_outside.specs.Faults.{Rose, Stands, TellsFaults}
 use Rattle.tb_outside.specs.Outside.{Writes, WritesFront}
 
--- the same count before, or after, a rise
+-- a count that stood, and then rose
 pub rose_after : (a b c : ℕ) → Stands a b → Rose b c → Rose a c
 rose_after a b c same rise = rw same at rise
-
-pub rose_before : (a b c : ℕ) → Rose a b → Stands b c → Rose a c
-rose_before a b c rise same = rw (← same) at rise
 
 -- no text: nothing changes
 pub gathers_none : {K : Type 0} {h : K → Option (List ℕ)} {f : K → ℕ} (a : K) (w : Option (List ℕ)) → Gathers h f a a w [] w
@@ -26,7 +23,7 @@ gathers_waiting {h = h} a (Some w) t = record { gathered = (([], refl, adds_none
 -- what is written of two texts, the first of which leaves a rest
 all_but_more : (a b c : Option (List ℕ)) (s t w : List ℕ) (rest last : List ℕ) → WritesAllBut a b (w ++ s) rest → WritesAllBut b c (rest ++ t) last → WritesAllBut a c (w ++ (s ++ t)) last
 all_but_more a b c s t w rest last first then =
-    (first.0 ++ then.0, rw (← append_assoc, first.1, append_assoc, then.1, append_assoc) refl, adds_more a b c first.0 then.0 first.2 then.2)
+    (first.0 ++ then.0, rw (← append_assoc, first.1, append_assoc first.0 rest t, then.1, append_assoc) refl, adds_more a b c first.0 then.0 first.2 then.2)
 
 all_but_front : (a b c : Option (List ℕ)) (s t w : List ℕ) (rest : List ℕ) → WritesAllBut a b (w ++ s) rest → WritesFront b c (rest ++ t) → WritesFront a c (w ++ (s ++ t))
 all_but_front a b c s t w rest first then =

@@ -20,6 +20,15 @@ pub trait Text {
         ensures { Gathers K.holds K.faults sink.old sink.new buffer.old (text self.now) buffer.new };
 }
 
+/// Bytes are their own text.
+impl Text for &[u8] {
+    ghost text = { λ bytes. bytes.now };
+
+    fn put<K: Sink>(&self, buffer: &mut OutputBuffer, sink: &mut K) {
+        buffer.put(sink, self);
+    }
+}
+
 /// Writes a text into a sink, by way of a buffer. Where the sink fails, a front of the text was written.
 #[tactic(auto, using(crate::proofs::Gathered::written))]
 pub fn write_text<T: Text, K: Sink>(text: &T, sink: &mut K) -> Result<(), SinkFault>
