@@ -13,6 +13,7 @@ use Rattle.tb_detail.specs.declared.PlanarTerm.{PlanarTerm}
 use Rattle.tb_detail.specs.declared.PsiItem.{PsiItem}
 use Rattle.tb_detail.specs.declared.SpaceBox.{SpaceBox}
 use Rattle.tb_detail.specs.declared.Span.{Span}
+use Rattle.tb_detail.specs.declared.limits.TheConstants.{FLAT_HEIGHT, MOST_BOXES, MOST_ENVIRONMENTS, MOST_LAYERS, MOST_NAMES, MOST_PSI, MOST_SECTIONS, MOST_TERMS}
 use Rattle.tb_detail.specs.declared.quantity.Quantity.{Quantity}
 use Rattle.tb_detail.specs.declared.quantity.Quantity.TheVariants as quantity
 use Rattle.tb_detail.specs.Names.{AreNamed}
@@ -33,9 +34,9 @@ abbrev pub name_count : Detail → ℕ
 name_count d = length d.environments + length d.materials + length d.parts + length d.psis + length d.chis
 
 pub record AreFew (d : Detail) : Type 0 where
-  pub environments : length d.environments ≤ 4
-  pub boxes : length d.boxes ≤ 512
-  pub names : name_count d ≤ 256
+  pub environments : length d.environments ≤ MOST_ENVIRONMENTS
+  pub boxes : length d.boxes ≤ MOST_BOXES
+  pub names : name_count d ≤ MOST_NAMES
 
 -- the dimension is 2 or 3, a Ψ stands only in the one and a χ only in the other
 pub record SuitsDimension (d : Detail) : Type 0 where
@@ -45,6 +46,7 @@ pub record SuitsDimension (d : Detail) : Type 0 where
 
 -- ---- boxes
 
+-- the lower coordinate is in range where the upper one is, since the least coordinate is 0
 pub record IsExtent (low high : ℕ) : Type 0 where
   pub rises : low < high
   pub in_range : IsInRange quantity.Length high
@@ -53,7 +55,7 @@ pub record SpanInLimits (dimension : ℕ) (s : Span) : Type 0 where
   pub x : IsExtent s.x0 s.x1
   pub y : IsExtent s.y0 s.y1
   pub z : IsExtent s.z0 s.z1
-  pub flat : dimension ≡ 2 → (s.z0 ≡ 0) × (s.z1 ≡ 10000)
+  pub flat : dimension ≡ 2 → (s.z0 ≡ 0) × (s.z1 ≡ FLAT_HEIGHT)
 
 -- what a box is filled with is known
 abbrev pub ContentInLimits : Detail → Content → Type 0
@@ -76,10 +78,10 @@ pub record PartInLimits (d : Detail) (p : Part) : Type 0 where
   pub rsi : IsInRange quantity.Resistance p.rsi
   pub rse : IsInRange quantity.Resistance p.rse
   pub some_area : 1 ≤ length p.areas
-  pub few_areas : length p.areas ≤ 4
+  pub few_areas : length p.areas ≤ MOST_SECTIONS
   pub areas : All (IsInRange quantity.Section) p.areas
   pub some_layer : 1 ≤ length p.layers
-  pub few_layers : length p.layers ≤ 16
+  pub few_layers : length p.layers ≤ MOST_LAYERS
   pub layers : All (LayerInLimits d (length p.areas)) p.layers
 
 -- ---- transmittances
@@ -96,17 +98,17 @@ pub record TermInLimits (d : Detail) (q : Quantity) (t : PlanarTerm) : Type 0 wh
   pub amount : IsInRange q t.amount
 
 pub record LineInLimits (l : LineTerm) : Type 0 where
-  pub lo : unsigned_abs l.psi_lo ≤ 1000000000
-  pub hi : unsigned_abs l.psi_hi ≤ 1000000000
+  pub lo : unsigned_abs l.psi_lo ≤ MOST_PSI
+  pub hi : unsigned_abs l.psi_hi ≤ MOST_PSI
   pub in_order : l.psi_lo ≤ℤ l.psi_hi
   pub length : IsInRange quantity.Length l.length
 
 pub record TermsInLimits (d : Detail) (q : Quantity) (ts : List PlanarTerm) : Type 0 where
-  pub few : length ts ≤ 16
+  pub few : length ts ≤ MOST_TERMS
   pub each : All (TermInLimits d q) ts
 
 pub record LinesInLimits (ls : List LineTerm) : Type 0 where
-  pub few : length ls ≤ 16
+  pub few : length ls ≤ MOST_TERMS
   pub each : All LineInLimits ls
 
 pub record PsiInLimits (d : Detail) (p : PsiItem) : Type 0 where

@@ -1,5 +1,6 @@
 -- The least and the greatest number of each quantity, in its unit.
 use Rattle.std.specs.Prelude.{ℕ, ◌≤◌}
+use Rattle.tb_detail.specs.declared.limits.TheConstants.{MOST_AREA, MOST_CONDUCTIVITY, MOST_LENGTH, MOST_RESISTANCE, MOST_SECTION}
 use Rattle.tb_detail.specs.declared.quantity.Quantity.{Quantity}
 use Rattle.tb_detail.specs.declared.quantity.Quantity.TheVariants.{Length, Thickness, Conductivity, Resistance, Section, Area}
 
@@ -12,12 +13,12 @@ least Section = 1
 least Area = 0
 
 abbrev pub most : Quantity → ℕ
-most Length = 500000
-most Thickness = 500000
-most Conductivity = 5000000
-most Resistance = 100000
-most Section = 1000000
-most Area = 100000000
+most Length = MOST_LENGTH
+most Thickness = MOST_LENGTH
+most Conductivity = MOST_CONDUCTIVITY
+most Resistance = MOST_RESISTANCE
+most Section = MOST_SECTION
+most Area = MOST_AREA
 
 -- a number is in the range of its quantity
 pub record IsInRange (q : Quantity) (n : ℕ) : Type 0 where

@@ -26,8 +26,9 @@ mod quantity;
 mod tests;
 
 pub use limits::{
-    FLAT_HEIGHT, MOST_BOXES, MOST_ENVIRONMENTS, MOST_LAYERS, MOST_NAMES, MOST_PSI, MOST_SECTIONS,
-    MOST_TERMS,
+    FLAT_HEIGHT, MOST_AREA, MOST_BOXES, MOST_CONDUCTIVITY, MOST_ENVIRONMENTS, MOST_LAYERS,
+    MOST_LENGTH, MOST_NAME_BYTES, MOST_NAMES, MOST_PSI, MOST_RESISTANCE, MOST_SECTION,
+    MOST_SECTIONS, MOST_TERMS,
 };
 pub use names::is_name;
 pub use quantity::Quantity;
@@ -84,7 +85,7 @@ impl PartialEq for Name {
     }
 }
 
-/// A material with its thermal conductivity, 1 to 5,000,000.
+/// A material with its thermal conductivity.
 #[derive(Clone, Debug, Drop, PartialEq)]
 pub struct Material {
     pub name: Name,
@@ -175,7 +176,7 @@ pub struct ChiItem {
     pub lines: Items<LineTerm>,
 }
 
-/// A detail of dimension 2 or 3. In dimension 2 every box reaches from z = 0 to z = 10,000, one metre.
+/// A detail of dimension 2 or 3. In dimension 2 every box reaches from z = 0 to `FLAT_HEIGHT`, one metre.
 #[derive(Clone, Debug, Drop, PartialEq)]
 pub struct Detail {
     pub dimension: u8,

@@ -1,4 +1,4 @@
-// Which details are within limits.
+// The greatest numbers and counts, and which details are within limits.
 ghost use Rattle.std.specs.Prelude.{◌↔◌, ◌<◌, ◌≤◌, IsTrue, All};
 ghost use Rattle.tb_detail.specs.Limits.{AreAllNamed, AreFew, BoxInLimits, ChiInLimits, ContentInLimits, InLimits, IsExtent, IsPair, LayerInLimits, LineInLimits, LinesInLimits, PartInLimits, PsiInLimits, SpanInLimits, SuitsDimension, TermInLimits, TermsInLimits, name_count};
 ghost use Rattle.tb_detail.specs.Quantities.{IsInRange};
@@ -9,6 +9,27 @@ use crate::{
     ChiItem, Content, Detail, Items, Layer, LineTerm, Material, Part, PlanarTerm, PsiItem,
     SpaceBox, Span,
 };
+
+/// The greatest coordinate, length and thickness, in 0.1 mm: 50 m.
+pub const MOST_LENGTH: u32 = 500_000;
+
+/// The greatest thermal conductivity, in 10⁻⁴ W/(m·K).
+pub const MOST_CONDUCTIVITY: u32 = 5_000_000;
+
+/// The greatest surface resistance, in 10⁻⁴ m²K/W.
+pub const MOST_RESISTANCE: u32 = 100_000;
+
+/// The greatest area of a section, as a weight.
+pub const MOST_SECTION: u32 = 1_000_000;
+
+/// The greatest area of a term, in 10⁻⁴ m²: one hectare.
+pub const MOST_AREA: u32 = 100_000_000;
+
+/// The greatest absolute value of a given ψ, in 10⁻⁶ W/(m·K).
+pub const MOST_PSI: u64 = 1_000_000_000;
+
+/// The upper z coordinate of every box in dimension 2, in 0.1 mm: one metre.
+pub const FLAT_HEIGHT: u32 = 10_000;
 
 /// The greatest number of environments of a detail.
 pub const MOST_ENVIRONMENTS: usize = 4;
@@ -28,11 +49,8 @@ pub const MOST_LAYERS: usize = 16;
 /// The greatest number of terms of each kind of a Ψ or a χ.
 pub const MOST_TERMS: usize = 16;
 
-/// The greatest absolute value of a given ψ, in 10⁻⁶ W/(m·K).
-pub const MOST_PSI: u64 = 1_000_000_000;
-
-/// The upper z coordinate of every box in dimension 2, in 0.1 mm: one metre.
-pub const FLAT_HEIGHT: u32 = 10_000;
+/// The greatest number of bytes of a name.
+pub const MOST_NAME_BYTES: usize = 32;
 
 // ---- the dimension, names and counts
 
@@ -58,7 +76,7 @@ fn are_all_named(detail: &Detail) -> bool
 
 // The number of names is capped, since lists of any length have to be judged.
 fn are_few_names(detail: &Detail) -> bool
-    ensures { IsTrue result ↔ (name_count detail.now ≤ 256) }
+    ensures { IsTrue result ↔ (name_count detail.now ≤ MOST_NAMES) }
 {
     let names = detail
         .environments

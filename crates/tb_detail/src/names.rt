@@ -4,14 +4,15 @@ ghost use Rattle.std.specs.List.{list_all, list_any};
 ghost use Rattle.std.specs.Str.{bytes_eq};
 ghost use Rattle.tb_detail.specs.Names.{AreNamed, is_name, is_name_byte};
 
+use crate::limits::MOST_NAME_BYTES;
 use crate::{ChiItem, Environment, Material, Name, Part, PsiItem};
 
-/// Whether a text has the form of a name: 1 to 32 bytes, each an ASCII letter, a digit, a space, `_`,
+/// Whether a text has the form of a name: 1 to `MOST_NAME_BYTES` bytes, each an ASCII letter, a digit, a space, `_`,
 /// `-` or `.`.
 pub fn is_name(text: &[u8]) -> bool
     ensures { result ≡ is_name text.now }
 {
-    1 <= text.len() && text.len() <= 32 && are_name_bytes(text)
+    1 <= text.len() && text.len() <= MOST_NAME_BYTES && are_name_bytes(text)
 }
 
 fn are_name_bytes(text: &[u8]) -> bool

@@ -2,6 +2,8 @@
 ghost use Rattle.std.specs.Prelude.{◌≡◌, ◌↔◌, ◌<◌, ◌≤◌, ◌^◌, IsTrue};
 ghost use Rattle.tb_detail.specs.Quantities.{IsInRange, least, most};
 
+use crate::limits::{MOST_AREA, MOST_CONDUCTIVITY, MOST_LENGTH, MOST_RESISTANCE, MOST_SECTION};
+
 /// What an unsigned number measures.
 #[derive(Clone, Copy, Debug, PartialEq, Eq)]
 pub enum Quantity {
@@ -35,11 +37,11 @@ impl Quantity {
         ensures { result ≡ most self }
     {
         match self {
-            Quantity::Length | Quantity::Thickness => 500_000,
-            Quantity::Conductivity => 5_000_000,
-            Quantity::Resistance => 100_000,
-            Quantity::Section => 1_000_000,
-            Quantity::Area => 100_000_000,
+            Quantity::Length | Quantity::Thickness => MOST_LENGTH,
+            Quantity::Conductivity => MOST_CONDUCTIVITY,
+            Quantity::Resistance => MOST_RESISTANCE,
+            Quantity::Section => MOST_SECTION,
+            Quantity::Area => MOST_AREA,
         }
     }
 

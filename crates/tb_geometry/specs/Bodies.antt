@@ -11,6 +11,7 @@ use Rattle.tb_detail.specs.declared.Material.{Material}
 use Rattle.tb_detail.specs.declared.SpaceBox.{SpaceBox}
 use Rattle.tb_detail.specs.declared.Detail.{Detail}
 use Rattle.tb_detail.specs.Limits.{InLimits}
+use Rattle.tb_detail.specs.declared.limits.TheConstants.{MOST_BOXES}
 use Rattle.tb_grid.specs.Axis.{IsLineAt}
 use Rattle.tb_grid.specs.Direction.{index_along}
 use Rattle.tb_grid.specs.Grid.{Axes}
@@ -30,7 +31,7 @@ IsProper b = (a : AxisName) → low a b < high a b
 
 -- boxes of a detail within limits
 pub record AreBoxes (boxes : List SpaceBox) : Type 0 where
-  pub few : length boxes ≤ 512
+  pub few : length boxes ≤ MOST_BOXES
   pub proper : All IsProper boxes
 
 -- ---- the table of holders: for each base cell, in the order of numbers, the place of a box that holds it

@@ -19,7 +19,7 @@ use std::alloc::{AllocError, Global};
 use tb_detail::SpaceBox;
 use tb_grid::{AxisName, CellId, Grid, GridPlace};
 
-// The mark of a base cell that no box holds: no place of a box, of which there are at most 512.
+// The mark of a base cell that no box holds: no place of a box, of which there are at most `MOST_BOXES`.
 const FREE: u16 = 65535;
 
 // The index of the line of an axis at a coordinate.

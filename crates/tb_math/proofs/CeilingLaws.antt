@@ -27,7 +27,7 @@ ceiling-above = ind {r = ◌≈◌} {β = λ q. q ≤ℚ int (ceiling q)} (λ q.
     (λ x. ≤ℚ-from x (whole (ceiling (mk x)))
     (record {
       at_most = above x.numerator (pos x.denominator) (quotient_up x.numerator x.denominator)
-          (quotient_up-rounds x.numerator x.denominator x.positive).above;
+          (quotient_up-rounds x.numerator x.denominator x.positive).at_least;
     }))
   where
     above : (z n c : ℤ) → z ≤ℤ (c *ℤ n) → (z *ℤ pos 1) ≤ℤ (c *ℤ n)
@@ -41,7 +41,7 @@ unfolding ceiling int ◌+ℚ◌
 ceiling-below = ind {r = ◌≈◌} {β = λ q. int (ceiling q) <ℚ q +ℚ int (pos 1)} (λ q. <ℚ-prop (int (ceiling q)) (q +ℚ int (pos 1)))
     (λ x. record {
       not_above = λ l. none x.numerator (pos x.denominator) (quotient_up x.numerator x.denominator)
-          (quotient_up-rounds x.numerator x.denominator x.positive).below (≤ℚ-to (x +F whole (pos 1)) (whole (ceiling (mk x))) l).at_most;
+          (quotient_up-rounds x.numerator x.denominator x.positive).near (≤ℚ-to (x +F whole (pos 1)) (whole (ceiling (mk x))) l).at_most;
     })
   where
     none : (z n c : ℤ) → (c *ℤ n) <ℤ (z +ℤ n) → ((z *ℤ pos 1 +ℤ pos 1 *ℤ n) *ℤ pos 1) ≤ℤ (c *ℤ (n *ℤ pos 1)) → ⊥
@@ -79,7 +79,7 @@ pub ceiling-nonneg : (q : ℚ) → int (pos 0) ≤ℚ q → pos 0 ≤ℤ ceiling
 ceiling-nonneg q h = subst (λ (t : ℤ). t ≤ℤ ceiling q) (ceiling-int (pos 0)) (ceiling-mono (int (pos 0)) q h)
 
 -- ---- at a quotient
-rounds_up-unique : (z : ℤ) (n : ℕ) (c d : ℤ) → 0 < n → RoundsUp z n c → RoundsUp z n d → c ≡ d
+rounds_up-unique : (z : ℤ) (n : ℕ) (c d : ℤ) → 0 < n → RoundsUp z (pos n) c → RoundsUp z (pos n) d → c ≡ d
 rounds_up-unique z n c d h k l = let x : Fraction = record { numerator = z; denominator = n; positive = h } in
     le_antisym c d (rounds_up-le x x c d (≈→≼ (≈-refl x)) k l) (rounds_up-le x x d c (≈→≼ (≈-refl x)) l k)
 
@@ -88,12 +88,12 @@ unfolding ceiling
 ratio-quotient z n h = sym (ap ceiling (fraction_is z n h))
 
 -- c is z rounded up to a multiple of n
-pub ratio-ceiling : (z : ℤ) (n : ℕ) (c : ℤ) → 0 < n → RoundsUp z n c → c ≡ ceiling (ratio z n)
+pub ratio-ceiling : (z : ℤ) (n : ℕ) (c : ℤ) → 0 < n → RoundsUp z (pos n) c → c ≡ ceiling (ratio z n)
 ratio-ceiling z n c h k = rounds_up-unique z n c (quotient_up z n) h k (quotient_up-rounds z n h) ∙ sym (ratio-quotient z n h)
 
 -- and the ceiling is such a number
-pub ratio-rounds : (z : ℤ) (n : ℕ) → 0 < n → RoundsUp z n (ceiling (ratio z n))
-ratio-rounds z n h = subst (λ (t : ℤ). RoundsUp z n t) (sym (ratio-quotient z n h)) (quotient_up-rounds z n h)
+pub ratio-rounds : (z : ℤ) (n : ℕ) → 0 < n → RoundsUp z (pos n) (ceiling (ratio z n))
+ratio-rounds z n h = subst (λ (t : ℤ). RoundsUp z (pos n) t) (sym (ratio-quotient z n h)) (quotient_up-rounds z n h)
 
 -- a rational that n times is z
 pub quotient-is : (q : ℚ) (z : ℤ) (n : ℕ) → 0 < n → q *ℚ int (pos n) ≡ int z → q ≡ ratio z n
@@ -102,5 +102,5 @@ quotient-is q z n h e = by_given {atoms = q ∷ int z ∷ int (pos n) ∷ one_ov
     (given (neg_ℚ q) (int (pos n) *ℚ one_over n) (int (pos 1)) (search reading) (search reading) (search reading) (one_over_cancel n h) none)) refl
 
 -- the ceiling of a rational from its numerator and denominator
-pub quotient-ceiling : (q : ℚ) (z : ℤ) (n : ℕ) (c : ℤ) → 0 < n → q *ℚ int (pos n) ≡ int z → RoundsUp z n c → c ≡ ceiling q
+pub quotient-ceiling : (q : ℚ) (z : ℤ) (n : ℕ) (c : ℤ) → 0 < n → q *ℚ int (pos n) ≡ int z → RoundsUp z (pos n) c → c ≡ ceiling q
 quotient-ceiling q z n c h e k = ratio-ceiling z n c h k ∙ ap ceiling (sym (quotient-is q z n h e))

@@ -19,31 +19,36 @@ unfoldable pub quotient_up : ℤ → ℕ → ℤ
 quotient_up (pos a) n = pos (div_ceil a n)
 quotient_up (negsuc a) n = neg_ℤ (pos (suc a / n))
 
--- c times n is z rounded up to a multiple of n
-pub record RoundsUp (z : ℤ) (n : ℕ) (c : ℤ) : Type 0 where
-  pub above : z ≤ℤ (c *ℤ pos n)
-  pub below : (c *ℤ pos n) <ℤ (z +ℤ pos n)
+-- c is n / d rounded up, for d above 0: c times d is at least n, by less than d
+pub record RoundsUp (n d c : ℤ) : Type 0 where
+  pub at_least : n ≤ℤ (c *ℤ d)
+  pub near : (c *ℤ d) <ℤ (n +ℤ d)
 
-pub quotient_up-rounds : (z : ℤ) (n : ℕ) → 0 < n → RoundsUp z n (quotient_up z n)
+-- c is n / d rounded down, for d above 0: c times d is at most n, by less than d
+pub record RoundsDown (n d c : ℤ) : Type 0 where
+  pub at_most : (c *ℤ d) ≤ℤ n
+  pub near : n <ℤ (c *ℤ d +ℤ d)
+
+pub quotient_up-rounds : (z : ℤ) (n : ℕ) → 0 < n → RoundsUp z (pos n) (quotient_up z n)
 unfolding quotient_up
 quotient_up-rounds (pos a) n h = let t = div_ceil_times a n h in positive (div_ceil a n) t.0 t.1
   where
-    positive : (c : ℕ) → a ≤ c * n → c * n < a + n → RoundsUp (pos a) n (pos c)
-    positive c l m = record { above = omega (arith, ints, l); below = omega (arith, ints, m) }
+    positive : (c : ℕ) → a ≤ c * n → c * n < a + n → RoundsUp (pos a) (pos n) (pos c)
+    positive c l m = record { at_least = omega (arith, ints, l); near = omega (arith, ints, m) }
 quotient_up-rounds (negsuc a) n h = negative (suc a / n) (div-mul-le_self (suc a) n) (lt-div-mul-add {a = suc a} {b = n} h)
   where
-    negative : (c : ℕ) → c * n ≤ suc a → suc a < c * n + n → RoundsUp (negsuc a) n (neg_ℤ (pos c))
-    negative c l m = let e = neg-mul (pos c) (pos n) in record { above = omega (arith, ints, l, e); below = omega (arith, ints, m, e) }
+    negative : (c : ℕ) → c * n ≤ suc a → suc a < c * n + n → RoundsUp (negsuc a) (pos n) (neg_ℤ (pos c))
+    negative c l m = let e = neg-mul (pos c) (pos n) in record { at_least = omega (arith, ints, l, e); near = omega (arith, ints, m, e) }
 
 -- rounding keeps the order of fractions
-pub rounds_up-le : (x y : Fraction) (c d : ℤ) → x ≼ y → RoundsUp x.numerator x.denominator c → RoundsUp y.numerator y.denominator d → c ≤ℤ d
+pub rounds_up-le : (x y : Fraction) (c d : ℤ) → x ≼ y → RoundsUp x.numerator (pos x.denominator) c → RoundsUp y.numerator (pos y.denominator) d → c ≤ℤ d
 rounds_up-le x y c d h k l = finish (cancel_le y.denominator (c *ℤ pos x.denominator +ℤ pos 1)
     (d *ℤ pos x.denominator +ℤ pos x.denominator) y.positive scaled)
   where
     scaled : (pos y.denominator *ℤ (c *ℤ pos x.denominator +ℤ pos 1)) ≤ℤ (pos y.denominator *ℤ (d *ℤ pos x.denominator +ℤ pos x.denominator))
-    scaled = let p : (c *ℤ pos x.denominator +ℤ pos 1) ≤ℤ (x.numerator +ℤ pos x.denominator) = omega (arith, ints, k.below) in
+    scaled = let p : (c *ℤ pos x.denominator +ℤ pos 1) ≤ℤ (x.numerator +ℤ pos x.denominator) = omega (arith, ints, k.near) in
         let q = mul_le (pos y.denominator) (c *ℤ pos x.denominator +ℤ pos 1) (x.numerator +ℤ pos x.denominator) (pos-nonneg y.denominator) p in
-        let r = mul_le (pos x.denominator) y.numerator (d *ℤ pos y.denominator) (pos-nonneg x.denominator) l.above in
+        let r = mul_le (pos x.denominator) y.numerator (d *ℤ pos y.denominator) (pos-nonneg x.denominator) l.at_least in
         let e1 = dist_l (pos y.denominator) x.numerator (pos x.denominator) in
         let e2 = dist_l (pos y.denominator) (d *ℤ pos x.denominator) (pos x.denominator) in
         let e3 = *ℤ_comm (pos y.denominator) x.numerator in

@@ -65,8 +65,8 @@ pub fn ceilings_round_up()
 
 /// The ceiling of z/n is the number that rounds z up to a multiple of n: the rounded quotient of a program.
 pub fn quotients_round_up()
-    ensures rounds { (z : ℤ) (n : ℕ) → 0 < n → RoundsUp z n (ceiling (ratio z n)) }
-    ensures unique { (z : ℤ) (n : ℕ) (c : ℤ) → 0 < n → RoundsUp z n c → c ≡ ceiling (ratio z n) }
+    ensures rounds { (z : ℤ) (n : ℕ) → 0 < n → RoundsUp z (pos n) (ceiling (ratio z n)) }
+    ensures unique { (z : ℤ) (n : ℕ) (c : ℤ) → 0 < n → RoundsUp z (pos n) c → c ≡ ceiling (ratio z n) }
 {}
 
 /// A sum of n terms, each rounded up, is at least the exact sum and above it by less than n.

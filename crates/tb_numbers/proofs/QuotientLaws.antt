@@ -3,20 +3,21 @@ use Rattle.std.proofs.Common.{ap, ◌≡◌, ◌+◌, ◌*◌, ◌/◌, ◌<◌,
 use Rattle.std.proofs.lemmas.Int.{ints, by_lt_z}
 use Rattle.std.proofs.Math.Nat.{mul-le-mul_right}
 use borrow.Author.Differences.{up, down, neg_is}
-use Rattle.tb_numbers.specs.Quotients.{Side, above, below, IsFloor, IsCeiling, IsRounded, floor, ceiling, rounded}
+use Rattle.tb_math.specs.Ceiling.{RoundsDown, RoundsUp}
+use Rattle.tb_numbers.specs.Quotients.{Side, above, below, IsRounded, floor, ceiling, rounded}
 
 -- ---- next to the quotient
 
-floor_nat : (a b : ℕ) → 0 < b → IsFloor (pos a) (pos b) (pos (a / b))
+floor_nat : (a b : ℕ) → 0 < b → RoundsDown (pos a) (pos b) (pos (a / b))
 floor_nat a b h = record { at_most = omega (arith, ints); near = omega (arith, ints) }
 
-floor_negative : (a b : ℕ) → 0 < b → IsFloor (negsuc a) (pos b) (negsuc (a / b))
+floor_negative : (a b : ℕ) → 0 < b → RoundsDown (negsuc a) (pos b) (negsuc (a / b))
 floor_negative a b h = record { at_most = omega (arith, ints); near = omega (arith, ints) }
 
 above_zero : (b : ℕ) → pos 0 <ℤ pos b → 0 < b
 above_zero b h = omega (arith, ints)
 
-pub floor_brackets : (n d : ℤ) → pos 0 <ℤ d → IsFloor n d (floor n d)
+pub floor_brackets : (n d : ℤ) → pos 0 <ℤ d → RoundsDown n d (floor n d)
 unfolding floor
 floor_brackets (pos a) (pos b) h = floor_nat a b (above_zero b h)
 floor_brackets (negsuc a) (pos b) h = floor_negative a b (above_zero b h)
@@ -25,10 +26,10 @@ floor_brackets n (negsuc b) h = absurd h.lt
 negated : (a b : ℤ) → neg_ℤ a *ℤ b ≡ neg_ℤ (a *ℤ b)
 negated a b = omega (arith, ints, ap (λ (n : ℕ). n * up b) (neg_is a).0, ap (λ (n : ℕ). n * down b) (neg_is a).0, ap (λ (n : ℕ). n * up b) (neg_is a).1, ap (λ (n : ℕ). n * down b) (neg_is a).1)
 
-turned : (n d q : ℤ) → IsFloor (neg_ℤ n) d q → IsCeiling n d (neg_ℤ q)
+turned : (n d q : ℤ) → RoundsDown (neg_ℤ n) d q → RoundsUp n d (neg_ℤ q)
 turned n d q h = record { at_least = omega (arith, ints, h.at_most, negated q d); near = omega (arith, ints, h.near, negated q d) }
 
-pub ceiling_brackets : (n d : ℤ) → pos 0 <ℤ d → IsCeiling n d (ceiling n d)
+pub ceiling_brackets : (n d : ℤ) → pos 0 <ℤ d → RoundsUp n d (ceiling n d)
 unfolding ceiling
 ceiling_brackets n d h = turned n d (floor (neg_ℤ n) d) (floor_brackets (neg_ℤ n) d h)
 
@@ -56,13 +57,13 @@ floor_greatest n d k h low = no_greater (floor n d) k d n h low (floor_brackets 
 pub ceiling_least : (n d k : ℤ) → pos 0 <ℤ d → n ≤ℤ (k *ℤ d) → ceiling n d ≤ℤ k
 ceiling_least n d k h high = let c = ceiling_brackets n d h in no_greater k (ceiling n d) d (ceiling n d *ℤ d) h (omega (arith, ints)) (omega (arith, ints, c.near))
 
-pub floor_unique : (n d q : ℤ) → pos 0 <ℤ d → IsFloor n d q → q ≡ floor n d
+pub floor_unique : (n d q : ℤ) → pos 0 <ℤ d → RoundsDown n d q → q ≡ floor n d
 floor_unique n d q h f =
     let least : q ≤ℤ floor n d = floor_greatest n d q h f.at_most in
     let most : floor n d ≤ℤ q = no_greater q (floor n d) d n h (floor_brackets n d h).at_most f.near in
     omega (arith, ints)
 
-pub ceiling_unique : (n d q : ℤ) → pos 0 <ℤ d → IsCeiling n d q → q ≡ ceiling n d
+pub ceiling_unique : (n d q : ℤ) → pos 0 <ℤ d → RoundsUp n d q → q ≡ ceiling n d
 ceiling_unique n d q h c =
     let most : ceiling n d ≤ℤ q = ceiling_least n d q h c.at_least in
     let own = ceiling_brackets n d h in

@@ -1,21 +1,12 @@
 -- Quotients of whole numbers, rounded to a whole number.
-use Rattle.std.specs.Prelude.{ℤ, neg_ℤ, ◌+ℤ◌, ◌*ℤ◌, ◌≤ℤ◌, ◌<ℤ◌}
+use Rattle.std.specs.Prelude.{ℤ, neg_ℤ}
 use Rattle.std.specs.Int.{int_div_euclid}
+use Rattle.tb_math.specs.Ceiling.{RoundsDown, RoundsUp}
 
 -- the side of a quotient on which its whole number lies
 pub data Side : Type 0 where
   above : Side
   below : Side
-
--- q is the floor of n / d, for d above 0: q times d is at most n, by less than d
-pub record IsFloor (n d q : ℤ) : Type 0 where
-  pub at_most : (q *ℤ d) ≤ℤ n
-  pub near : n <ℤ (q *ℤ d +ℤ d)
-
--- q is the ceiling of n / d, for d above 0: q times d is at least n, by less than d
-pub record IsCeiling (n d q : ℤ) : Type 0 where
-  pub at_least : n ≤ℤ (q *ℤ d)
-  pub near : (q *ℤ d) <ℤ (n +ℤ d)
 
 -- the greatest whole number whose product with d is at most n, for d above 0
 unfoldable pub floor : ℤ → ℤ → ℤ
@@ -32,5 +23,5 @@ rounded below n d = floor n d
 
 -- q is that number
 abbrev pub IsRounded : Side → ℤ → ℤ → ℤ → Type 0
-IsRounded above n d q = IsCeiling n d q
-IsRounded below n d q = IsFloor n d q
+IsRounded above n d q = RoundsUp n d q
+IsRounded below n d q = RoundsDown n d q

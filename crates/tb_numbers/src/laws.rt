@@ -1,23 +1,24 @@
 // Laws of rounded quotients, and of texts that read as what they were written from.
 ghost use Rattle.std.specs.Prelude.{◌≡◌, ◌^◌, ◌<◌, ◌≤◌, ℕ, ℤ, pos, ◌*ℤ◌, ◌≤ℤ◌, ◌<ℤ◌, unsigned_abs, length, All, Some, Ok};
-ghost use Rattle.tb_numbers.specs.Quotients.{IsCeiling, IsFloor, IsRounded, Side, ceiling, floor, rounded};
+ghost use Rattle.tb_math.specs.Ceiling.{RoundsDown, RoundsUp};
+ghost use Rattle.tb_numbers.specs.Quotients.{IsRounded, Side, ceiling, floor, rounded};
 ghost use Rattle.tb_numbers.specs.Reading.{decimal_reading, in_range, in_size, signed_reading, whole_reading};
 ghost use Rattle.tb_numbers.specs.Texts.{IsDecimalByte, IsSignedDecimalByte, decimal_text, fixed_text, signed_decimal_text};
 
 /// The floor of n / d times d is at most n, by less than d. It is the greatest whole number whose
 /// product with d is at most n, and no other number lies so.
 pub fn floor_laws()
-    ensures brackets { (n d : ℤ) → pos 0 <ℤ d → IsFloor n d (floor n d) }
+    ensures brackets { (n d : ℤ) → pos 0 <ℤ d → RoundsDown n d (floor n d) }
     ensures greatest { (n d k : ℤ) → pos 0 <ℤ d → (k *ℤ d) ≤ℤ n → k ≤ℤ floor n d }
-    ensures unique { (n d q : ℤ) → pos 0 <ℤ d → IsFloor n d q → q ≡ floor n d }
+    ensures unique { (n d q : ℤ) → pos 0 <ℤ d → RoundsDown n d q → q ≡ floor n d }
 {}
 
 /// The ceiling of n / d times d is at least n, by less than d. It is the least whole number whose
 /// product with d is at least n, and no other number lies so.
 pub fn ceiling_laws()
-    ensures brackets { (n d : ℤ) → pos 0 <ℤ d → IsCeiling n d (ceiling n d) }
+    ensures brackets { (n d : ℤ) → pos 0 <ℤ d → RoundsUp n d (ceiling n d) }
     ensures least { (n d k : ℤ) → pos 0 <ℤ d → n ≤ℤ (k *ℤ d) → ceiling n d ≤ℤ k }
-    ensures unique { (n d q : ℤ) → pos 0 <ℤ d → IsCeiling n d q → q ≡ ceiling n d }
+    ensures unique { (n d q : ℤ) → pos 0 <ℤ d → RoundsUp n d q → q ≡ ceiling n d }
 {}
 
 /// Each rounding brackets the quotient on its side, is the only one that does, and keeps a quotient

@@ -1,18 +1,18 @@
 // Quotients of whole numbers, rounded up or down.
 ghost use Rattle.std.specs.Prelude.{◌≡◌, pos, ◌<ℤ◌};
-ghost use Rattle.tb_numbers.specs.Quotients.{Side, above, below, rounded};
+ghost use Rattle.tb_numbers.specs.Quotients.{IsRounded, Side, above, below, rounded};
 
 /// A way to round quotients: each to the whole number next to it on one side.
 ///
-/// The answer times the divisor is then on that side of the dividend, by less than the divisor
-/// (`rounding_laws`).
+/// The answer times the divisor is then on that side of the dividend, by less than the divisor.
 pub trait Rounding {
     ghost side: { Side };
 
     /// The rounded quotient `n / d`. It always fits.
     fn div(n: i128, d: i128) -> i128
         requires { pos 0 <ℤ d }
-        ensures { result ≡ rounded side n d };
+        ensures value { result ≡ rounded side n d }
+        ensures bracket { IsRounded side n d result };
 }
 
 /// Rounds up: the quotient is the ceiling.

@@ -1,5 +1,6 @@
 // Writing numbers.
-ghost use Rattle.std.specs.Prelude.{◌≡◌, ◌+◌, ◌^◌, ◌<◌, ◌≤◌, [], ◌∷◌, ◌++◌, length, replicate};
+ghost use Rattle.std.specs.Prelude.{◌≡◌, ◌+◌, ◌^◌, ◌<◌, ◌≤◌, ℕ, [], ◌∷◌, ◌++◌, Ok, length, replicate, unsigned_abs};
+ghost use Rattle.tb_numbers.specs.Reading.{decimal_reading, in_range, in_size, signed_reading};
 ghost use Rattle.tb_numbers.specs.Texts.{decimal_text, fixed_text, fraction_text, padded, short_fraction_text, sign, signed_decimal_text, without_trailing_zeros};
 
 use crate::power::power_of_ten;
@@ -160,10 +161,13 @@ pub fn fixed(value: i128, places: u8) -> NumberText
 }
 
 /// The text of a number that is given in units of its last place, as short as it can be: the whole
-/// part, and where the fraction isn't 0 a point and its digits without zeros at the end.
+/// part, and where the fraction isn't 0 a point and its digits without zeros at the end. It reads as the
+/// same number.
 pub fn decimal(value: u64, places: u8) -> NumberText
     requires { places ≤ 8 }
-    ensures { result ≡ decimal_text places value }
+    ensures text { result ≡ decimal_text places value }
+    ensures reads_back { (least most : ℕ) → least ≤ value → value ≤ most
+        → in_range least most (decimal_reading places result) ≡ Ok value }
 {
     let mut text = NumberText::empty();
     text.append_decimal(value, places);
@@ -174,7 +178,9 @@ pub fn decimal(value: u64, places: u8) -> NumberText
 #[tactic(auto, unfolding(crate::specs::Texts::signed_decimal_text))]
 pub fn signed_decimal(value: i64, places: u8) -> NumberText
     requires { places ≤ 8 }
-    ensures { result ≡ signed_decimal_text places value }
+    ensures text { result ≡ signed_decimal_text places value }
+    ensures reads_back { (most : ℕ) → unsigned_abs value ≤ most
+        → in_size most (signed_reading places result) ≡ Ok value }
 {
     let mut text = NumberText::from_sign(i128::from(value));
     text.append_decimal(value.unsigned_abs(), places);

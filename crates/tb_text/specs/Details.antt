@@ -8,6 +8,7 @@ use Rattle.tb_detail.specs.declared.Content.TheVariants.{Air, Solid}
 use Rattle.tb_detail.specs.declared.Detail.{Detail}
 use Rattle.tb_detail.specs.declared.Environment.{Environment}
 use Rattle.tb_detail.specs.declared.Layer.{Layer}
+use Rattle.tb_detail.specs.declared.limits.TheConstants.{FLAT_HEIGHT}
 use Rattle.tb_detail.specs.declared.LineTerm.{LineTerm}
 use Rattle.tb_detail.specs.declared.Material.{Material}
 use Rattle.tb_detail.specs.declared.Part.{Part}
@@ -79,7 +80,7 @@ environment_of e = record { name = e.name }
 abbrev pub material_of : Entry → Material
 material_of e = record { name = e.name; lambda = number_at e.values 2 }
 
--- six coordinates from a place on. Where a record has no z coordinates, these are 0 and 1000 mm.
+-- six coordinates from a place on. Where a record has no z coordinates, these are 0 and one metre.
 abbrev pub span_at : List FieldValue → ℕ → Span
 span_at vs i = record {
   x0 = number_at vs i;
@@ -87,7 +88,7 @@ span_at vs i = record {
   y0 = number_at vs (i + 2);
   y1 = number_at vs (i + 3);
   z0 = number_or 0 vs (i + 4);
-  z1 = number_or 10000 vs (i + 5);
+  z1 = number_or FLAT_HEIGHT vs (i + 5);
 }
 
 abbrev pub is_box : Entry → Bool

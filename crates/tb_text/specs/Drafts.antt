@@ -3,6 +3,7 @@ use Rattle.std.specs.Prelude.{◌≡◌, ℕ, zero, suc, ◌<◌, ◌≤◌, ◌
 use Rattle.tb_detail.specs.declared.ChiItem.{ChiItem}
 use Rattle.tb_detail.specs.declared.Detail.{Detail}
 use Rattle.tb_detail.specs.declared.Layer.{Layer}
+use Rattle.tb_detail.specs.declared.limits.TheConstants.{MOST_NAMES}
 use Rattle.tb_detail.specs.declared.LineTerm.{LineTerm}
 use Rattle.tb_detail.specs.declared.Part.{Part}
 use Rattle.tb_detail.specs.declared.PlanarTerm.{PlanarTerm}
@@ -82,7 +83,7 @@ with_entry e d = record {
 -- a name that is declared is new in its kind, and there is room for it
 abbrev pub IsNewName : NamesByKind → Option NameKind → Text → Type 0
 IsNewName names None text = Unit {0}
-IsNewName names (Some k) text = (place_of (names k) text ≡ None) × (length (names k) < 256)
+IsNewName names (Some k) text = (place_of (names k) text ≡ None) × (length (names k) < MOST_NAMES)
 
 abbrev pub with_declared : Option NameKind → Text → Names → Names
 with_declared None text n = n

@@ -9,6 +9,7 @@ use Rattle.tb_numbers.specs.Reading.{decimal_reading, in_range, in_size, signed_
 use Rattle.tb_numbers.specs.declared.parse.NumberFault.{NumberFault}
 use Rattle.tb_numbers.specs.declared.parse.NumberFault.TheVariants as number_fault
 use Rattle.tb_detail.specs.declared.Detail.{Detail}
+use Rattle.tb_detail.specs.declared.limits.TheConstants.{MOST_BOXES, MOST_ENVIRONMENTS, MOST_LAYERS, MOST_NAMES, MOST_PSI, MOST_TERMS}
 use Rattle.tb_detail.specs.declared.Part.{Part}
 use Rattle.tb_detail.specs.declared.PsiItem.{PsiItem}
 use Rattle.tb_detail.specs.declared.ChiItem.{ChiItem}
@@ -55,7 +56,7 @@ number_reading q text = of_number (in_range (least q) (most q) (decimal_reading 
 
 -- a text as a ψ, of 6 places and up to 1000 W/(m·K) in size
 unfoldable pub psi_reading : Text → Result ℤ DetailKind
-psi_reading text = of_number (in_size 1000000000 (signed_reading 6 text))
+psi_reading text = of_number (in_size MOST_PSI (signed_reading 6 text))
 
 -- ---- the value of a field: the place of the name that it uses, or its number
 
@@ -207,17 +208,17 @@ count_at count xs v = option_map_or count (slice_get xs (place_in v)) 0
 
 -- whether there are already as many things as there may be of what a record adds
 abbrev pub is_full : NamesByKind → Detail → RecordKind → List FieldValue → Bool
-is_full names d kind.Environment vs = nat_le 4 (length d.environments) || nat_le 256 (name_count names)
-is_full names d kind.Material vs = nat_le 256 (name_count names)
-is_full names d kind.Solid vs = nat_le 512 (length d.boxes)
-is_full names d kind.Air vs = nat_le 512 (length d.boxes)
-is_full names d kind.Part vs = nat_le 256 (name_count names)
-is_full names d kind.Layer vs = nat_le 16 (count_at part_layers d.parts (value_at vs 1))
-is_full names d kind.Psi vs = nat_le 256 (name_count names)
-is_full names d kind.Length vs = nat_le 16 (count_at psi_lengths d.psis (value_at vs 1))
-is_full names d kind.Chi vs = nat_le 256 (name_count names)
-is_full names d kind.Area vs = nat_le 16 (count_at chi_areas d.chis (value_at vs 1))
-is_full names d kind.Line vs = nat_le 16 (count_at chi_lines d.chis (value_at vs 1))
+is_full names d kind.Environment vs = nat_le MOST_ENVIRONMENTS (length d.environments) || nat_le MOST_NAMES (name_count names)
+is_full names d kind.Material vs = nat_le MOST_NAMES (name_count names)
+is_full names d kind.Solid vs = nat_le MOST_BOXES (length d.boxes)
+is_full names d kind.Air vs = nat_le MOST_BOXES (length d.boxes)
+is_full names d kind.Part vs = nat_le MOST_NAMES (name_count names)
+is_full names d kind.Layer vs = nat_le MOST_LAYERS (count_at part_layers d.parts (value_at vs 1))
+is_full names d kind.Psi vs = nat_le MOST_NAMES (name_count names)
+is_full names d kind.Length vs = nat_le MOST_TERMS (count_at psi_lengths d.psis (value_at vs 1))
+is_full names d kind.Chi vs = nat_le MOST_NAMES (name_count names)
+is_full names d kind.Area vs = nat_le MOST_TERMS (count_at chi_areas d.chis (value_at vs 1))
+is_full names d kind.Line vs = nat_le MOST_TERMS (count_at chi_lines d.chis (value_at vs 1))
 
 -- the first fault of a record of a kind: of its dimension, its number of fields, its fields from left to
 -- right, and the count of what it adds
