@@ -1,9 +1,16 @@
+pub mod Carries
 pub mod Corners
+pub mod CutLines
+pub mod CutSteps
 pub mod Few
+pub mod LevelLines
 pub mod Lines
 pub mod Neighbours
+pub mod Pieces
+pub mod Rises
 pub mod Rising
 pub mod Searches
+pub mod Shares
 pub mod Through
 pub mod Volumes
 pub mod Within

@@ -6,20 +6,20 @@ use Rattle.std.proofs.lemmas.List.{get_or_default}
 use Rattle.std.proofs.lemmas.List.Kept.{AllPairs-from_increasing}
 use Rattle.tb_grid.specs.Axis.{AreLinesThrough, HasTwo}
 
-member_cases : (x : ℕ) (xs : List ℕ) (n : ℕ) → Contains (x ∷ xs) n → (x ≡ n) ⊎ Contains xs n
+pub member_cases : (x : ℕ) (xs : List ℕ) (n : ℕ) → Contains (x ∷ xs) n → (x ≡ n) ⊎ Contains xs n
 member_cases x xs n (zero, below, is) = inl is
 member_cases x xs n (suc k, below, is) = inr (k, omega arith, is)
 
-first_member : (x : ℕ) (xs : List ℕ) → Contains (x ∷ xs) x
+pub first_member : (x : ℕ) (xs : List ℕ) → Contains (x ∷ xs) x
 first_member x xs = (0, omega arith, refl)
 
-later_member : (x : ℕ) (xs : List ℕ) (n : ℕ) → Contains xs n → Contains (x ∷ xs) n
+pub later_member : (x : ℕ) (xs : List ℕ) (n : ℕ) → Contains xs n → Contains (x ∷ xs) n
 later_member x xs n (k, below, is) = (suc k, omega arith, is)
 
-no_member : (n : ℕ) → Contains [] n → ⊥
+pub no_member : (n : ℕ) → Contains [] n → ⊥
 no_member n (k, below, is) = omega arith
 
-tail_rises : (x : ℕ) (xs : List ℕ) → IsStrictlyIncreasing (x ∷ xs) → IsStrictlyIncreasing xs
+pub tail_rises : (x : ℕ) (xs : List ℕ) → IsStrictlyIncreasing (x ∷ xs) → IsStrictlyIncreasing xs
 tail_rises x xs rising k below =
     let place : suc k + 1 ≡ suc (k + 1) = omega arith in
     subst (λ (m : ℕ). get_or xs k 0 < get_or (x ∷ xs) m 0) place (rising (suc k) (omega arith))
@@ -65,7 +65,7 @@ lines_unique coordinates lines others some same =
     rising_unique lines others some.rising same.rising
     (λ n. (λ there. (same.same n).1 ((some.same n).0 there), λ there. (some.same n).1 ((same.same n).0 there)))
 
-two_members : (xs : List ℕ) (low high : ℕ) → Contains xs low → Contains xs high → low < high → 2 ≤ length xs
+pub two_members : (xs : List ℕ) (low high : ℕ) → Contains xs low → Contains xs high → low < high → 2 ≤ length xs
 two_members [] low high has_low has_high apart = absurd (no_member low has_low)
 two_members (x ∷ []) low high has_low has_high apart =
     ⊎_elim (λ (is_low : x ≡ low). ⊎_elim (λ (is_high : x ≡ high). absurd (omega arith))

@@ -1,4 +1,7 @@
 pub mod Axis
+pub mod Cuts
 pub mod Direction
 pub mod Grid
+pub mod Level
+pub mod Levels
 pub mod Views

@@ -5,7 +5,7 @@ ghost use Rattle.tb_grid.specs.Axis.{IsAxis, AreLinesThrough, AreLinesUpTo, HasT
 
 use std::marker::Model;
 
-const MOST_LINES: usize = 1024;
+pub(crate) const MOST_LINES: usize = 1024;
 
 /// Why a list is not the lines of an axis.
 #[derive(Clone, Copy, Debug, PartialEq, Eq)]

@@ -11,6 +11,10 @@ mod direction;
 mod grid;
 mod ids;
 pub mod laws;
+mod level;
+#[cfg(test)]
+mod level_tests;
+mod levels;
 mod place;
 mod sides;
 #[cfg(test)]
@@ -21,5 +25,7 @@ pub use counts::CellCounts;
 pub use direction::{Direction, X, Y, Z};
 pub use grid::{Grid, TooManyCells};
 pub use ids::{CellId, EdgeId, FaceId, NodeId};
+pub use level::{GridFault, axes_have_one_level_grid, graded};
+pub use levels::{Grading, GridTooLarge, LevelFault, level_grid};
 pub use place::{GridFace, GridPlace, other_axes};
 pub use tb_places::AxisName;
