@@ -15,7 +15,7 @@ use Rattle.tb_places.specs.declared.AxisName.TheVariants.{X, Y, Z}
 use Rattle.tb_places.specs.Places.{along}
 use Rattle.tb_model.specs.Mesh.{Mesh, cross_section}
 use Rattle.tb_model.specs.Energy.{Case, Field, Flux, outflow, boundary, field_terms, flux_terms}
-use Rattle.tb_duality.specs.Means.{face_temperature, mean_difference, mean_flow, carried_off, entering}
+use Rattle.tb_duality.specs.MeanValues.{face_temperature, mean_difference, mean_flow, carried_off, entering}
 use Rattle.tb_duality.proofs.Corners.{corner_sum, corners_are}
 use Rattle.tb_duality.proofs.Leaks.{weighted}
 use Rattle.tb_duality.proofs.Terms.{cell_law, cell_law_neg, face_law_signed}

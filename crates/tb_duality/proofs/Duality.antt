@@ -22,7 +22,7 @@ use Rattle.tb_model.specs.declared.FaceKind.TheVariants.{Shut}
 use Rattle.tb_model.specs.Mesh.{Mesh, kind, cross_section}
 use Rattle.tb_model.specs.Energy.{Case, Field, Flux, Terms, IsBalanced, exact, boundary, field_terms, flux_terms, entering_terms, energy, source, bound}
 use Rattle.tb_model.specs.Positive.{IsPhysical}
-use Rattle.tb_duality.specs.Means.{entering}
+use Rattle.tb_duality.specs.MeanValues.{entering}
 use Rattle.tb_duality.proofs.Corners.{corner_sum, face_sum, corners_are}
 use Rattle.tb_duality.proofs.Terms.{cell_law_neg, face_law_signed}
 use Rattle.tb_duality.proofs.MeshSums.{AllRelated, exactly, exact_related}

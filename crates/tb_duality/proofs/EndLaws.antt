@@ -65,7 +65,7 @@ pub upper_end_near : (m : Mesh) (inside : Case) (T : Field) → RoundsTerms (num
 unfolding energy upper_end
 upper_end_near m inside T = terms_near m (field_terms m inside T)
 
-int-neg : (z : ℤ) → int (neg_ℤ z) ≡ neg_ℚ (int z)
+pub int-neg : (z : ℤ) → int (neg_ℤ z) ≡ neg_ℚ (int z)
 unfolding int neg_ℚ
 int-neg z = refl
 

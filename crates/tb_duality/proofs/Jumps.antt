@@ -18,7 +18,7 @@ use Rattle.tb_detail.specs.declared.Content.{Content}
 use Rattle.tb_detail.specs.declared.Content.TheVariants.{Solid, Air}
 use Rattle.tb_model.specs.declared.FaceKind.TheVariants.{Shut}
 use Rattle.tb_model.specs.Mesh.{Mesh, kind, kind_between, below, above}
-use Rattle.tb_duality.specs.Means.{entering}
+use Rattle.tb_duality.specs.MeanValues.{entering}
 use Rattle.tb_model.specs.Energy.{Terms, of_solid, at_surface, line_sum, axis_sum, exact}
 
 -- a number at a solid, else 0

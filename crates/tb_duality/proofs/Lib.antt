@@ -6,7 +6,13 @@ pub mod Jumps
 pub mod Leaks
 pub mod Duality
 pub mod CellLaws
-pub mod Resistances
+pub mod Surfaces
 pub mod PhysicalMeshes
 pub mod EndLaws
 pub mod WallLaws
+pub mod AcrossRefinements
+pub mod ComplementLaws
+pub mod BodiesInLimits
+pub mod WholeFlows
+pub mod TermCounts
+pub mod BodyEnds

@@ -25,7 +25,7 @@ use Rattle.tb_detail.specs.declared.Content.TheVariants.{Solid, Air}
 use Rattle.tb_detail.specs.declared.SpaceBox.{SpaceBox}
 use Rattle.tb_model.specs.Refinement.{Scene, Refinement, Refines, line, holds_middle, occupant, mesh}
 use Rattle.tb_model.specs.Positive.{IsPhysical, IsPositive, HasPositiveBoxes}
-use Rattle.tb_duality.proofs.Resistances.{surfaces_resist}
+use Rattle.tb_duality.proofs.Surfaces.{surfaces_are_of_airs}
 
 -- what holds of each element holds of the one that is found
 found : {A : Type 0} (P : A → Type 0) (test : A → Bool) (xs : List A) → All P xs → (x : A) → find test xs ≡ Some x → P x
@@ -36,12 +36,13 @@ found P test (y ∷ ys) all x is = by_test (test y) is (found P test ys (λ k d 
     by_test true e ih = let same : y ≡ x = grind arith in subst P same (all 0 y (omega arith))
     by_test false e ih = ih e
 
-occupant_is : (s : Scene) (r : Refinement) → HasPositiveBoxes s → (i j k : ℕ) (c : Content) → occupant s r i j k ≡ Some c → IsPositive s c
-occupant_is s r boxes i j k c is = from_box (find (holds_middle r i j k) s.boxes) refl is
+-- what holds of the content of each box holds of the content of each cell
+pub content_of_box : (s : Scene) (r : Refinement) (P : Content → Type 0) → All (λ b. P b.content) s.boxes → (i j k : ℕ) (c : Content) → occupant s r i j k ≡ Some c → P c
+content_of_box s r P boxes i j k c is = from_box (find (holds_middle r i j k) s.boxes) refl is
   where
-    from_box : (b : Option SpaceBox) → find (holds_middle r i j k) s.boxes ≡ b → option_map (λ b. b.content) b ≡ Some c → IsPositive s c
+    from_box : (b : Option SpaceBox) → find (holds_middle r i j k) s.boxes ≡ b → option_map (λ b. b.content) b ≡ Some c → P c
     from_box None at e = absurd (grind arith)
-    from_box (Some b) at e = let same : b.content ≡ c = grind arith in subst (IsPositive s) same (found (λ b. IsPositive s b.content) (holds_middle r i j k) s.boxes boxes b at)
+    from_box (Some b) at e = let same : b.content ≡ c = grind arith in subst P same (found (λ b. P b.content) (holds_middle r i j k) s.boxes boxes b at)
 
 one_over-positive : (n : ℕ) → 0 < n → int (pos 0) <ℚ one_over n
 one_over-positive n h = record { not_above = λ l. none (int-≤ (pos 1) (pos 0) (subst (λ (t : ℚ). t ≤ℚ int (pos 0)) (one_over_cancel n h) (subst (λ (t : ℚ). int (pos n) *ℚ one_over n ≤ℚ t) (vanishes (int (pos n))) (≤ℚ-mul (int (pos n)) (one_over n) (int (pos 0)) (≤ℚ-int (pos 0) (pos n) (pos-nonneg n)) l)))) }
@@ -58,8 +59,8 @@ gap-positive p q h = let g : 0 < q - p = omega arith in <ℚ-int (pos 0) (pos (q
 pub mesh_physical : (s : Scene) (r : Refinement) → Refines s r → HasPositiveBoxes s → IsPhysical (mesh s r)
 mesh_physical s r refines boxes = record {
   widths = λ a i h. product-is_positive (int (pos (line r a (suc i) - line r a i))) (one_over r.scale) (rising a i h) (one_over-positive r.scale refines.scaled);
-  conductivities = λ a i j k material cell is. occupant_is s r boxes i j k (Solid material) is a;
-  resistances = λ a i j k e rs low hi hj hk is. surfaces_resist (mesh s r) (λ i j k e rs. occupant_is s r boxes i j k (Air e rs)) a i j k e rs low is;
+  conductivities = λ a i j k material cell is. content_of_box s r (IsPositive s) boxes i j k (Solid material) is a;
+  resistances = λ a i j k e rs low hi hj hk is. surfaces_are_of_airs (λ e rs. 0 < rs) (mesh s r) (λ i j k e rs. content_of_box s r (IsPositive s) boxes i j k (Air e rs)) a i j k e rs low is;
 }
   where
     rising : (a : AxisName) (i : ℕ) → i < length (r.lines a) - 1 → int (pos 0) <ℚ int (pos (line r a (suc i) - line r a i))

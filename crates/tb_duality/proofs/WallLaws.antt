@@ -20,7 +20,7 @@ use Rattle.tb_model.specs.declared.FaceKind.TheVariants.{Shut}
 use Rattle.tb_model.specs.Mesh.{kind}
 use Rattle.tb_model.specs.Energy.{IsBalanced, spread, passage, exact, energy, source, bound}
 use Rattle.tb_model.specs.Positive.{IsPhysical}
-use Rattle.tb_duality.proofs.Resistances.{surfaces_resist}
+use Rattle.tb_duality.proofs.Surfaces.{surfaces_are_of_airs}
 use Rattle.tb_duality.specs.Wall.{wall, warm_inside, wall_field, wall_flux, staying_flux}
 
 pub wall-energy : energy wall warm_inside wall_field ≡ int (pos (10 ^ 15))
@@ -48,7 +48,7 @@ pub wall-physical : IsPhysical wall
 wall-physical = record {
   widths = widths;
   conductivities = λ a i j k material h is. positive 2000 (omega arith);
-  resistances = λ a i j k e rs low hi hj hk is. surfaces_resist wall airs_resist a i j k e rs low is;
+  resistances = λ a i j k e rs low hi hj hk is. surfaces_are_of_airs (λ e rs. 0 < rs) wall airs_resist a i j k e rs low is;
 }
 
 shut : (a : AxisName) (i j k : ℕ) → i ≤ wall.cells a → j < wall.cells (second a) → k < wall.cells (third a) → kind wall a i j k ≡ Shut → along a (wall_flux a) i j k ≡ int (pos 0)

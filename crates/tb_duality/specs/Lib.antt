@@ -1,2 +1,2 @@
-pub mod Means
+pub mod MeanValues
 pub mod Wall

@@ -1,5 +1,6 @@
 //! Weak duality: on every mesh and in every case, the bound of each balanced flux is at most the energy of each
-//! temperature field. So every field proves an upper end of the heat flow, and every balanced flux a lower end.
+//! temperature field. So every field proves an upper end of the heat flow, and every balanced flux a lower end. Field and
+//! flux may stand on two different refinements of a body ([`refinements`]), among them the grids that carry it ([`bodies`]).
 //!
 //! There is no program here: each function is a law, whose contract is the fact. Temperatures are in 10⁻⁸ of the
 //! difference and flows in nW per unit difference, so that the product of the two is in 10⁻² fW/K; energies,
@@ -8,6 +9,10 @@
 //! The proof is that of Prager and Synge (1947) for these elements: in one cell and on one surface face it is an
 //! inequality between squares, and over the mesh the products of flow and temperature cancel.
 #![tactic(auto)]
+
+pub mod bodies;
+pub mod complements;
+pub mod refinements;
 
 ghost use Rattle.std.specs.Prelude.{◌≡◌, ◌^◌, ◌<◌, ℕ, ℤ, Bool, pos};
 ghost use Rattle.tb_math.specs.Ceiling.{RoundsTerms};
@@ -20,7 +25,7 @@ ghost use Rattle.tb_model.specs.Positive.{IsPhysical, HasPositiveBoxes};
 ghost use Rattle.tb_model.specs.Refinement.{Scene, Refinement, Refines, mesh};
 ghost use Rattle.tb_model.specs.Soundness.{IsSoundOn};
 ghost use Rattle.tb_model.specs.Energy.{Case, Field, Flux, IsBalanced, outflow, boundary, field_terms, flux_terms, number_of_terms, energy, source, bound, upper_end, lower_end};
-ghost use Rattle.tb_duality.specs.Means.{face_temperature, mean_difference, mean_flow, carried_off, entering};
+ghost use Rattle.tb_duality.specs.MeanValues.{face_temperature, mean_difference, mean_flow, carried_off, entering};
 ghost use Rattle.tb_duality.specs.Wall.{wall, warm_inside, wall_field, wall_flux, staying_flux};
 
 /// In a balanced cell, the sum over its six faces of outward flow times mean corner temperature is the sum over the

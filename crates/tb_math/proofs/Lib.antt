@@ -14,8 +14,6 @@ pub mod SumInstances
 pub mod StrictOrder
 pub mod CeilingLaws
 pub mod SumsOfCeilings
-pub mod QuadraticForms
-pub mod CutForms
 pub mod LineLaws
 pub mod DivisionLaws
 pub mod RationalSums

@@ -5,3 +5,7 @@ pub mod Soundness
 pub mod Values
 pub mod Positive
 pub mod Faults
+pub mod Cuts
+pub mod Merges
+pub mod Complements
+pub mod Whole

@@ -7,3 +7,4 @@ pub mod Nodes
 pub mod Rows
 pub mod Runs
 pub mod Steps
+pub mod CutLines

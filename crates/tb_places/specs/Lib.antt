@@ -1,3 +1,4 @@
 pub mod Along
 pub mod Inverse
 pub mod Places
+pub mod Cuts

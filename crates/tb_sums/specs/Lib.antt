@@ -1,3 +1,5 @@
 pub mod Limits
 pub mod Spread
 pub mod Terms
+pub mod Quantities
+pub mod CutLaws

@@ -1,12 +1,13 @@
 -- The terms in the words of the model, and the numbers that they may be made of.
-use Rattle.std.specs.Prelude.{ℕ, All, pos}
+use Rattle.std.specs.Prelude.{ℕ, All, List, ℤ, pos}
 use Rattle.tb_math.specs.Rational.{ℚ, int, ◌*ℚ◌}
 use Rattle.tb_model.specs.Energy.{passage, cell_energy, surface_energy, cell_loss, surface_loss}
 use Rattle.tb_sums.specs.declared.field.FieldCell.{FieldCell}
 use Rattle.tb_sums.specs.declared.field.FieldFace.{FieldFace}
 use Rattle.tb_sums.specs.declared.flux.FluxCell.{FluxCell}
 use Rattle.tb_sums.specs.declared.flux.FluxFace.{FluxFace}
-use Rattle.tb_sums.specs.Spread.{corner_spread}
+use Rattle.tb_sums.specs.Quantities.{Cell, Corners, Ends, Face}
+use Rattle.tb_sums.specs.Spread.{corner, corner_spread}
 use Rattle.tb_sums.specs.Limits.{IsConductivity, IsResistance, IsWidth, IsDifference, IsFlow}
 
 -- the area of a cross-section with these widths, in 10⁻⁸ m²
@@ -26,6 +27,23 @@ flux_cell_term x = cell_loss (int (pos x.lambda)) (int (pos x.a)) (area_of x.b x
 
 abbrev pub flux_face_term : FluxFace → ℚ
 flux_face_term x = surface_loss x.rs (area_of x.b x.c) (int x.flow)
+
+-- Quantities --
+
+abbrev pub corners_of : List ℤ → Corners
+corners_of d = record { d00 = corner d 0; d10 = corner d 1; d01 = corner d 2; d11 = corner d 3 }
+
+abbrev pub cell_of_field : FieldCell → Cell Corners
+cell_of_field x = record { conductivity = int (pos x.lambda); along = int (pos x.a); b = int (pos x.b); c = int (pos x.c); values = corners_of x.d }
+
+abbrev pub face_of_field : FieldFace → Face Corners
+face_of_field x = record { resistance = x.rs; b = int (pos x.b); c = int (pos x.c); values = corners_of x.t }
+
+abbrev pub cell_of_flux : FluxCell → Cell Ends
+cell_of_flux x = record { conductivity = int (pos x.lambda); along = int (pos x.a); b = int (pos x.b); c = int (pos x.c); values = record { low = int x.low; high = int x.high } }
+
+abbrev pub face_of_flux : FluxFace → Face ℚ
+face_of_flux x = record { resistance = x.rs; b = int (pos x.b); c = int (pos x.c); values = int x.flow }
 
 -- Limits --
 

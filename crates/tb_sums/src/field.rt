@@ -42,7 +42,11 @@ pub struct FieldFace {
 }
 
 impl Functional for FieldCell {
-    ghost use Rattle.tb_sums.specs.Terms.{FitsFieldCell, field_cell_term};
+    ghost use Rattle.tb_sums.specs.Terms.{FitsFieldCell, field_cell_term, cell_of_field};
+
+    ghost use Rattle.std.specs.Prelude.{refl};
+    ghost use Rattle.tb_sums.specs.CutLaws.{field_cell_parts};
+    ghost use Rattle.tb_sums.specs.Quantities.{Cell, Corners, energy_of_cell, CellCut, field_cell_part};
 
     ghost Fits = { FitsFieldCell };
 
@@ -51,6 +55,20 @@ impl Functional for FieldCell {
     ghost divisor = { λ x. 36 * 10 ^ 9 * x.a };
 
     ghost greatest = { 125 * 10 ^ 23 };
+
+    ghost Quantities = { Cell Corners };
+
+    ghost quantities = { cell_of_field };
+
+    ghost value_of = { energy_of_cell };
+
+    ghost Cut = { CellCut };
+
+    ghost part_of = { field_cell_part };
+
+    ghost valued = { λ x. refl };
+
+    ghost parts_add_up = { field_cell_parts };
 
     fn numerator(&self) -> i128 {
         let conductance = u64::from(self.lambda) * section(self.b, self.c);
@@ -63,7 +81,11 @@ impl Functional for FieldCell {
 }
 
 impl Functional for FieldFace {
-    ghost use Rattle.tb_sums.specs.Terms.{FitsFieldFace, field_face_term};
+    ghost use Rattle.tb_sums.specs.Terms.{FitsFieldFace, field_face_term, face_of_field};
+
+    ghost use Rattle.std.specs.Prelude.{refl};
+    ghost use Rattle.tb_sums.specs.CutLaws.{field_face_parts};
+    ghost use Rattle.tb_sums.specs.Quantities.{Face, Corners, energy_of_face, FaceCut, field_face_part};
 
     ghost Fits = { FitsFieldFace };
 
@@ -72,6 +94,20 @@ impl Functional for FieldFace {
     ghost divisor = { λ x. 36 * 10 ^ 5 * x.rs };
 
     ghost greatest = { 25 * 10 ^ 21 };
+
+    ghost Quantities = { Face Corners };
+
+    ghost quantities = { face_of_field };
+
+    ghost value_of = { energy_of_face };
+
+    ghost Cut = { FaceCut };
+
+    ghost part_of = { field_face_part };
+
+    ghost valued = { λ x. refl };
+
+    ghost parts_add_up = { field_face_parts };
 
     fn numerator(&self) -> i128 {
         i128::from(section(self.b, self.c)) * i128::from(spread_of(&self.t))

@@ -40,7 +40,11 @@ pub struct FluxFace {
 }
 
 impl Functional for FluxCell {
-    ghost use Rattle.tb_sums.specs.Terms.{FitsFluxCell, flux_cell_term};
+    ghost use Rattle.tb_sums.specs.Terms.{FitsFluxCell, flux_cell_term, cell_of_flux};
+
+    ghost use Rattle.std.specs.Prelude.{refl};
+    ghost use Rattle.tb_sums.specs.CutLaws.{flux_cell_parts};
+    ghost use Rattle.tb_sums.specs.Quantities.{Cell, Ends, loss_of_cell, CellCut, flux_cell_part};
 
     ghost Fits = { FitsFluxCell };
 
@@ -49,6 +53,20 @@ impl Functional for FluxCell {
     ghost divisor = { λ x. 3 * (x.lambda * (x.b * x.c)) };
 
     ghost greatest = { 5 * 10 ^ 34 };
+
+    ghost Quantities = { Cell Ends };
+
+    ghost quantities = { cell_of_flux };
+
+    ghost value_of = { loss_of_cell };
+
+    ghost Cut = { CellCut };
+
+    ghost part_of = { flux_cell_part };
+
+    ghost valued = { λ x. refl };
+
+    ghost parts_add_up = { flux_cell_parts };
 
     fn numerator(&self) -> i128 {
         i128::from(100_000 * u64::from(self.a)) * passage_of(self.low, self.high)
@@ -60,7 +78,12 @@ impl Functional for FluxCell {
 }
 
 impl Functional for FluxFace {
-    ghost use Rattle.tb_sums.specs.Terms.{FitsFluxFace, flux_face_term};
+    ghost use Rattle.tb_sums.specs.Terms.{FitsFluxFace, flux_face_term, face_of_flux};
+
+    ghost use Rattle.std.specs.Prelude.{refl};
+    ghost use Rattle.tb_math.specs.Rational.{ℚ};
+    ghost use Rattle.tb_sums.specs.CutLaws.{flux_face_parts};
+    ghost use Rattle.tb_sums.specs.Quantities.{Face, loss_of_face, FaceCut, flux_face_part};
 
     ghost Fits = { FitsFluxFace };
 
@@ -69,6 +92,20 @@ impl Functional for FluxFace {
     ghost divisor = { λ x. x.b * x.c };
 
     ghost greatest = { 10 ^ 30 };
+
+    ghost Quantities = { Face ℚ };
+
+    ghost quantities = { face_of_flux };
+
+    ghost value_of = { loss_of_face };
+
+    ghost Cut = { FaceCut };
+
+    ghost part_of = { flux_face_part };
+
+    ghost valued = { λ x. refl };
+
+    ghost parts_add_up = { flux_face_parts };
 
     fn numerator(&self) -> i128 {
         i128::from(10 * u64::from(self.rs)) * product(self.flow, self.flow)

@@ -1,7 +1,9 @@
 // What the terms have in common.
 ghost use Rattle.std.specs.Prelude.{◌≡◌, ℕ, ◌*◌, ◌<◌, ℤ, pos, ◌≤ℤ◌, ◌<ℤ◌};
 ghost use Rattle.tb_math.specs.Ceiling.{quotient_up, ceiling};
-ghost use Rattle.tb_math.specs.Rational.{ℚ, int, ◌*ℚ◌, ◌≤ℚ◌};
+ghost use Rattle.tb_math.specs.Rational.{ℚ, int, ◌+ℚ◌, ◌*ℚ◌, ◌≤ℚ◌};
+ghost use Rattle.tb_model.specs.Cuts.{IsRatio};
+ghost use Rattle.tb_sums.specs.Quantities.{Part, low, high};
 
 /// One term of a field's energy or of a flux's loss: the quotient of two whole numbers, in fW/K.
 ///
@@ -19,6 +21,15 @@ pub trait Functional {
     // the greatest value that a term may have
     ghost greatest: { ℕ };
 
+    // what a term depends on, as rational numbers without limits: of this term, and the value of such a term
+    ghost Quantities: { Type 0 };
+    ghost quantities: { Self → Quantities };
+    ghost value_of: { Quantities → ℚ };
+
+    // how what a term stands for may be cut, and what a part has of it at a ratio
+    ghost Cut: { Type 0 };
+    ghost part_of: { Cut → Part → ℚ → Quantities → Quantities };
+
     /// The numerator of the term. It isn't negative.
     fn numerator(&self) -> i128
         requires within_limits { Fits self.now }
@@ -31,7 +42,20 @@ pub trait Functional {
         requires within_limits { Fits self.now }
         ensures value { result ≡ pos (divisor self.now) }
         ensures positive { pos 0 <ℤ result };
+
+    // a term has the value of its quantities
+    ghost valued: { (x : Self) → value_of (quantities x) ≡ term x };
+
+    // the two parts that a cut makes add up to the exact value of the whole
+    ghost parts_add_up: { (cut : Cut) (s : ℚ) (x : Quantities) → IsRatio s
+        → value_of (part_of cut low s x) +ℚ value_of (part_of cut high s x) ≡ value_of x };
 }
+
+/// Where a cut makes two parts of what a term stands for, the exact values of the parts add up to that of the whole.
+pub fn cut_terms_add_up<F: Functional>()
+    ensures { (x : F) (cut : F.Cut) (s : ℚ) → IsRatio s
+        → F.value_of (F.part_of cut low s (F.quantities x)) +ℚ F.value_of (F.part_of cut high s (F.quantities x)) ≡ F.term x }
+{}
 
 /// A term rounded up to a whole number is its numerator over its denominator, rounded up.
 pub fn terms_round_up<F: Functional>()

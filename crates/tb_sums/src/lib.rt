@@ -24,7 +24,7 @@ mod tests;
 
 pub use field::{FieldCell, FieldFace};
 pub use flux::{FluxCell, FluxFace};
-pub use functional::{Functional, terms_round_up};
+pub use functional::{Functional, cut_terms_add_up, terms_round_up};
 
 /// An interval that holds a heat flow coefficient, from its lower to its upper end in fW/K.
 #[derive(Clone, Copy, Debug, PartialEq, Eq)]

@@ -1,0 +1,13 @@
+pub mod CutLines
+pub mod CutIntervals
+pub mod CutSums
+pub mod CutForms
+pub mod CutTerms
+pub mod CutFields
+pub mod CutFluxes
+pub mod CutBalance
+pub mod InsertedLines
+pub mod JoinedLines
+pub mod CutMeshes
+pub mod Rescaling
+pub mod Merging
