@@ -1,9 +1,10 @@
 -- Records that take one detail to the next, and what reading them comes to.
-use Rattle.std.proofs.Common.{◌≡◌, ◌∙◌, ap, refl, sym, subst, ℕ, zero, suc, ◌+◌, ◌==◌, false, List, [], ◌∷◌, ◌++◌, map, position, Option, Some, None, Ok, append_assoc}
+use Rattle.std.proofs.Common.{◌≡◌, ◌∙◌, ap, refl, sym, subst, ℕ, zero, suc, ◌+◌, ◌==◌, true, false, List, [], ◌∷◌, ◌++◌, map, position, Option, Some, None, Ok, append_assoc}
 use Rattle.std.proofs.lemmas.List.{append-nil}
-use Rattle.std.specs.List.{flat_map}
+use Rattle.std.specs.List.{flat_map, list_all}
 use Rattle.std.specs.Option.{option_map_or, option_or}
 use Rattle.std.specs.Prelude.{option_map, is_none, slice_index, if◌then◌else◌}
+use Rattle.tb_records.specs.Plain.{is_plain_record}
 use Rattle.tb_detail.specs.declared.ChiItem.{ChiItem}
 use Rattle.tb_detail.specs.declared.Detail.{Detail}
 use Rattle.tb_detail.specs.declared.Environment.{Environment}
@@ -99,11 +100,12 @@ draft_after (said.Record k vs) number row d numbers =
     ap (λ (n : Names). let draft : Draft = record { names = n; detail = detail_after (said.Record k vs) row d; part_numbers = numbers_after (said.Record k vs) number numbers } in draft)
     (names_after k vs row d)
 
--- a record without a fault takes one detail to another
+-- a plain record without a fault takes one detail to another
 pub record Goes (a : Detail) (row : Row) (b : Detail) : Type 0 where
   pub said : Said
   pub reads : reading (names_in a) a row ≡ Ok said
   pub leads : detail_after said row a ≡ b
+  pub plain : is_plain_record row ≡ true
 
 -- ---- records, one behind the other
 
@@ -117,6 +119,11 @@ runs_append a b c (row ∷ rows) more h k = (h.0, h.1, runs_append h.0 b c rows 
 
 pub runs_one : (a b : Detail) (row : Row) → Goes a row b → Runs a (row ∷ []) b
 runs_one a b row h = (b, h, refl)
+
+-- the records are plain
+pub runs_plain : (a b : Detail) (rows : List Row) → Runs a rows b → list_all is_plain_record rows ≡ true
+runs_plain a b [] h = refl
+runs_plain a b (row ∷ rows) h = rw (h.1.plain, runs_plain h.0 b rows h.2) refl
 
 -- the records of a list of things, each of which takes a state with the things before it to one with it
 pub runs_each : {X : Type 0} (rows : X → List Row) (at : List X → Detail) (all : List X)

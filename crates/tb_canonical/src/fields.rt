@@ -1,12 +1,12 @@
 // Fields of records: names at places, and numbers. The bytes of a name and the items of a list come by a
 // call, since their views meet only there.
-ghost use Rattle.std.specs.Prelude.{◌≡◌, ◌<◌, ◌≤◌, length};
+ghost use Rattle.std.specs.Prelude.{◌≡◌, ◌<◌};
 ghost use Rattle.tb_canonical.specs.Canonical.{dimension_text, name_at, names_in, number, psi_number};
-ghost use Rattle.tb_text.specs.Kinds.{places};
-ghost use Rattle.tb_text.specs.declared.kinds.NameKind.TheVariants as name;
+ghost use Rattle.tb_text.specs.declared.values.FieldValue.TheVariants.{Place};
 
 use tb_detail::{Detail, Items, Name, Quantity};
 use tb_numbers::{NumberText, decimal, signed_decimal};
+use tb_text::{FieldValue, NameKind, places};
 
 /// The items of a list.
 pub fn slice_of<T>(list: &Items<T>) -> &[T]
@@ -22,39 +22,41 @@ pub fn name_bytes(name: &Name) -> &[u8]
     &name.bytes
 }
 
-pub fn environment_name(detail: &Detail, place: u8) -> &[u8]
-    requires { place < length detail.now.environments }
-    ensures { result.now ≡ name_at (names_in detail.now name.Environment) place }
+/// The name at a place, empty where there is none.
+pub fn name_at(detail: &Detail, kind: NameKind, place: u8) -> &[u8]
+    ensures { result.now ≡ name_at (names_in detail.now kind) place }
 {
-    name_bytes(&detail.environments.items[usize::from(place)].name)
-}
-
-pub fn material_name(detail: &Detail, place: u16) -> &[u8]
-    requires { place < length detail.now.materials }
-    ensures { result.now ≡ name_at (names_in detail.now name.Material) place }
-{
-    name_bytes(&detail.materials.items[usize::from(place)].name)
-}
-
-pub fn part_name(detail: &Detail, place: u16) -> &[u8]
-    requires { place < length detail.now.parts }
-    ensures { result.now ≡ name_at (names_in detail.now name.Part) place }
-{
-    name_bytes(&detail.parts.items[usize::from(place)].name)
-}
-
-fn places(quantity: Quantity) -> u8
-    ensures value { result ≡ places quantity }
-    ensures few { result ≤ 8 }
-{
-    match quantity {
-        Quantity::Section => 0,
-        Quantity::Length => 1,
-        Quantity::Thickness => 1,
-        Quantity::Conductivity => 4,
-        Quantity::Resistance => 4,
-        Quantity::Area => 4,
+    let place = usize::from(place);
+    match kind {
+        NameKind::Environment => match slice_of(&detail.environments).get(place) {
+            Some(environment) => name_bytes(&environment.name),
+            None => b"",
+        },
+        NameKind::Material => match slice_of(&detail.materials).get(place) {
+            Some(material) => name_bytes(&material.name),
+            None => b"",
+        },
+        NameKind::Part => match slice_of(&detail.parts).get(place) {
+            Some(part) => name_bytes(&part.name),
+            None => b"",
+        },
+        NameKind::Psi => match slice_of(&detail.psis).get(place) {
+            Some(psi) => name_bytes(&psi.name),
+            None => b"",
+        },
+        NameKind::Chi => match slice_of(&detail.chis).get(place) {
+            Some(chi) => name_bytes(&chi.name),
+            None => b"",
+        },
     }
+}
+
+/// A place among at most 256 names, as the value of a field.
+pub fn place(place: u16) -> FieldValue
+    requires { place < 256 }
+    ensures { result ≡ Place place }
+{
+    FieldValue::Place(place as u8)
 }
 
 /// The text of a number of a quantity.

@@ -5,18 +5,17 @@
 //! lines. In dimension 2 the z coordinates of boxes are left out. Names stand for places, and numbers are
 //! written with as few decimal places as write them.
 //!
-//! `specs/Canonical.antt` has the records of a detail. Their text reads back as the same detail.
+//! A record is written by the table of kinds that reads it. `specs/Canonical.antt` has the values of each thing of a
+//! detail, and the records of a detail. Their text reads back as the same detail.
 #![tactic(auto)]
 
-mod boxes;
 mod detail;
 mod fields;
-mod items;
 mod laws;
-mod parts;
 mod record;
 #[cfg(test)]
 mod tests;
+mod things;
 
 pub use detail::{put_detail, write_detail};
 pub use laws::canonical_reads_back;

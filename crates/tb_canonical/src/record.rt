@@ -1,45 +1,77 @@
 // Writing a record.
-ghost use Rattle.std.specs.Prelude.{◌≡◌, ◌∷◌, ◌++◌, [], OnErr, map};
-ghost use Rattle.std.specs.List.{join_with_byte};
-ghost use Rattle.tb_outside.specs.Outside.{Gathers, HasCause};
+ghost use Rattle.std.specs.Prelude.{◌≡◌, ◌∷◌, ◌<◌, length, map};
+ghost use Rattle.tb_outside.specs.Buffers.{Gathers};
 ghost use Rattle.tb_records.specs.Plain.{record_text};
+ghost use Rattle.tb_canonical.specs.Canonical.{field_text, names_in, row_of};
+ghost use Rattle.tb_text.specs.Kinds.{fields};
 
-use tb_outside::{OutputBuffer, Sink, SinkFault};
-
-// A record without its line feed.
-pub fn put_fields<K: Sink>(
-    buffer: &mut OutputBuffer,
-    sink: &mut K,
-    word: &[u8],
-    fields: &[&[u8]],
-) -> Result<(), SinkFault>
-    ensures gathers { Gathers (K.holds sink.old) (K.holds sink.new)
-        (buffer.old ++ join_with_byte 44 (word.now ∷ map (λ field. field.now) fields.now))
-        buffer.new result }
-    ensures cause { HasCause (K.faults sink.old) (K.faults sink.new) result }
-    ensures fault { OnErr result (buffer.new ≡ []) }
-{
-    buffer.put(sink, word)?;
-    for field in fields {
-        buffer.put_pieces(sink, &[b",", field])?;
-    }
-    Ok(())
-}
+use crate::fields::{name_at, number, psi_number};
+use tb_detail::Detail;
+use tb_outside::{OutputBuffer, Sink};
+use tb_text::{FieldRule, FieldValue, RecordKind};
 
 /// Puts a record of these fields, the first of which is its word: a comma between each two, and a line
 /// feed at the end. They are written as they are, so they must be plain.
-pub fn put_record<K: Sink>(
+pub fn put_record<K: Sink>(buffer: &mut OutputBuffer, sink: &mut K, word: &[u8], fields: &[&[u8]])
+    ensures { Gathers K.holds K.faults sink.old sink.new buffer.old
+        (record_text (word.now ∷ map (λ field. field.now) fields.now)) buffer.new }
+{
+    buffer.put(sink, word);
+    for field in fields {
+        buffer.put_pieces(sink, &[b",", field]);
+    }
+    buffer.put(sink, b"\n");
+}
+
+// A field by its rule.
+fn put_field<K: Sink>(
     buffer: &mut OutputBuffer,
     sink: &mut K,
-    word: &[u8],
-    fields: &[&[u8]],
-) -> Result<(), SinkFault>
-    ensures gathers { Gathers (K.holds sink.old) (K.holds sink.new)
-        (buffer.old ++ record_text (word.now ∷ map (λ field. field.now) fields.now))
-        buffer.new result }
-    ensures cause { HasCause (K.faults sink.old) (K.faults sink.new) result }
-    ensures fault { OnErr result (buffer.new ≡ []) }
+    detail: &Detail,
+    kind: RecordKind,
+    item: &[u8],
+    rule: FieldRule,
+    value: FieldValue,
+)
+    ensures { Gathers K.holds K.faults sink.old sink.new buffer.old
+        (field_text (names_in detail.now) kind item.now rule value) buffer.new }
 {
-    put_fields(buffer, sink, word, fields)?;
-    buffer.put(sink, b"\n")
+    match rule {
+        FieldRule::Word => buffer.put(sink, kind.word()),
+        FieldRule::Declares(_) => buffer.put(sink, item),
+        FieldRule::BelongsTo(_) => buffer.put(sink, item),
+        FieldRule::Uses(of) => buffer.put(sink, name_at(detail, of, value.place())),
+        FieldRule::UsesOther(of) => buffer.put(sink, name_at(detail, of, value.place())),
+        FieldRule::Reads(quantity) => {
+            buffer.put(sink, number(quantity, value.number()).as_bytes())
+        }
+        FieldRule::ReadsAbove(quantity) => {
+            buffer.put(sink, number(quantity, value.number()).as_bytes())
+        }
+        FieldRule::ReadsPsi => buffer.put(sink, psi_number(value.signed()).as_bytes()),
+        FieldRule::ReadsPsiFrom => buffer.put(sink, psi_number(value.signed()).as_bytes()),
+    }
+}
+
+/// Puts the record of a kind, of the item of this name, with these values behind its word, each written by its
+/// rule.
+pub fn put_row<K: Sink>(
+    buffer: &mut OutputBuffer,
+    sink: &mut K,
+    detail: &Detail,
+    kind: RecordKind,
+    item: &[u8],
+    values: &[FieldValue],
+)
+    requires { length values.now < length (fields kind) }
+    ensures { Gathers K.holds K.faults sink.old sink.new buffer.old
+        (record_text (row_of (names_in detail.now) kind item.now values.now)) buffer.new }
+{
+    let rules = kind.fields();
+    buffer.put(sink, kind.word());
+    for (at, value) in values.iter().enumerate() {
+        buffer.put(sink, b",");
+        put_field(buffer, sink, detail, kind, item, rules[at + 1], *value);
+    }
+    buffer.put(sink, b"\n");
 }

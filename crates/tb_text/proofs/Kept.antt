@@ -34,7 +34,7 @@ use Rattle.tb_text.specs.declared.values.FieldValue.{FieldValue}
 use Rattle.tb_text.specs.Records.{Row, chi_areas, chi_lines, is_full, psi_lengths, text_at, value_at}
 use Rattle.tb_text.proofs.Added.{AreAsMany, air_added, area_added, chi_added, length_added, line_added, material_added, psi_added, solid_added, vals}
 use Rattle.tb_text.proofs.AddedParts.{layer_added, part_added, room_in}
-use Rattle.tb_text.proofs.Places.{none_passes}
+use Rattle.tb_text.proofs.NamePlaces.{none_passes}
 use Rattle.tb_text.proofs.Settled.{IsFormed, IsSound, neither_is, new_formed, new_name}
 use Rattle.tb_text.proofs.SoFar.{AreAllTexts, AreKept, AreTexts, AreThose, PartSoFar, all_changed, box_more, chi_more, entry_grows, map_changed, part_more, psi_more}
 

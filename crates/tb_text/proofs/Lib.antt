@@ -7,8 +7,8 @@ pub mod First
 pub mod Growth
 pub mod Holding
 pub mod Kept
+pub mod NamePlaces
 pub mod Obeying
-pub mod Places
 pub mod Saying
 pub mod Selected
 pub mod Settled

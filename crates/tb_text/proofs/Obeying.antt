@@ -13,13 +13,13 @@ use Rattle.tb_text.specs.declared.fault.DetailKind.{DetailKind}
 use Rattle.tb_text.specs.declared.fault.DetailKind.TheVariants as fault
 use Rattle.tb_text.specs.declared.kinds.NameKind.{NameKind}
 use Rattle.tb_text.specs.declared.kinds.FieldRule.{FieldRule}
-use Rattle.tb_text.specs.declared.kinds.FieldRule.TheVariants.{Word, Declares, Uses, UsesOther, Reads, ReadsAbove, ReadsPsi, ReadsPsiFrom}
+use Rattle.tb_text.specs.declared.kinds.FieldRule.TheVariants.{Word, Declares, BelongsTo, Uses, UsesOther, Reads, ReadsAbove, ReadsPsi, ReadsPsiFrom}
 use Rattle.tb_text.specs.declared.values.FieldValue.{FieldValue}
 use Rattle.tb_text.specs.declared.values.FieldValue.TheVariants.{Place}
 use Rattle.tb_text.specs.Kinds.{places}
 use Rattle.tb_text.specs.Names.{NamesByKind, place_of}
 use Rattle.tb_text.specs.Records.{Row, above_fault, field_fault, field_faults, first_some, from_fault, is_place, number_fault_in, number_in, number_reading, number_value, of_number, pair_fault, place_in, place_value, psi_reading, psi_value, signed_in, value, value_at, values}
-use Rattle.tb_text.proofs.Places.{place_within}
+use Rattle.tb_text.proofs.NamePlaces.{place_within}
 use Rattle.tb_text.proofs.Settled.{none_first, used}
 
 -- ---- one value
@@ -32,6 +32,7 @@ IsPlaceOf names k v = (place : ℕ) × ((v ≡ Place place) × (place < length (
 abbrev pub Obeys : NamesByKind → FieldRule → FieldValue → FieldValue → Type 0
 Obeys names Word before v = Unit {0}
 Obeys names (Declares k) before v = Unit {0}
+Obeys names (BelongsTo k) before v = IsPlaceOf names k v
 Obeys names (Uses k) before v = IsPlaceOf names k v
 Obeys names (UsesOther k) before v = IsPlaceOf names k v × (is_place (place_in v) before ≡ false)
 Obeys names (Reads q) before v = IsInRange q (number_in v)
@@ -104,6 +105,9 @@ module _ (P : ℤ → Type 0) where
 obeys : (names : NamesByKind) (rule : FieldRule) (before : FieldValue) (text : Text) → field_fault names rule before text ≡ None → Obeys names rule before (value names rule text)
 obeys names Word before text h = tt
 obeys names (Declares k) before text h = tt
+obeys names (BelongsTo k) before text h =
+    let u = used (place_of (names k) text) h in
+    (u.0, (ap place_value u.1, place_within (bytes_eq text) (names k) u.0 u.1))
 obeys names (Uses k) before text h =
     let u = used (place_of (names k) text) h in
     (u.0, (ap place_value u.1, place_within (bytes_eq text) (names k) u.0 u.1))

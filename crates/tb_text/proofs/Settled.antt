@@ -14,7 +14,7 @@ use Rattle.tb_text.specs.declared.kinds.RecordKind.TheVariants as kind
 use Rattle.tb_text.specs.declared.kinds.NameKind.{NameKind}
 use Rattle.tb_text.specs.declared.kinds.NameKind.TheVariants as name
 use Rattle.tb_text.specs.declared.kinds.FieldRule.{FieldRule}
-use Rattle.tb_text.specs.declared.kinds.FieldRule.TheVariants.{Word, Declares, Uses, UsesOther, Reads, ReadsAbove, ReadsPsi, ReadsPsiFrom}
+use Rattle.tb_text.specs.declared.kinds.FieldRule.TheVariants.{Word, Declares, BelongsTo, Uses, UsesOther, Reads, ReadsAbove, ReadsPsi, ReadsPsiFrom}
 use Rattle.tb_text.specs.declared.values.FieldValue.{FieldValue}
 use Rattle.tb_text.specs.declared.values.FieldValue.TheVariants.{Nothing, Place}
 use Rattle.tb_text.specs.Details.{entry, same_kind}
@@ -23,7 +23,7 @@ use Rattle.tb_text.specs.Kinds.{declares, fields, is_allowed}
 use Rattle.tb_detail.specs.Names.{Text, is_name}
 use Rattle.tb_text.specs.Names.{NamesByKind, name_count, place_of}
 use Rattle.tb_text.specs.Records.{Row, at_field, fault_if, field_fault, field_faults, first_some, is_count, is_full, is_place, kind_fault, kind_of, name_fault, pair_fault, place_value, sections_of, text_at, use_fault, value, value_at, values, values_as}
-use Rattle.tb_text.proofs.Places.{place_within}
+use Rattle.tb_text.proofs.NamePlaces.{place_within}
 
 -- ---- places
 
@@ -76,6 +76,7 @@ paired before (Some i) h = (i, refl)
 value_longer : (names more : NamesByKind) (rule : FieldRule) (before : FieldValue) (text : Text) → field_fault names rule before text ≡ None → value (longer names more) rule text ≡ value names rule text
 value_longer names more Word before text h = refl
 value_longer names more (Declares k) before text h = refl
+value_longer names more (BelongsTo k) before text h = let u = used (place_of (names k) text) h in ap place_value (place_longer (names k) (more k) text u.0 u.1 ∙ sym u.1)
 value_longer names more (Uses k) before text h = let u = used (place_of (names k) text) h in ap place_value (place_longer (names k) (more k) text u.0 u.1 ∙ sym u.1)
 value_longer names more (UsesOther k) before text h = let u = paired before (place_of (names k) text) h in ap place_value (place_longer (names k) (more k) text u.0 u.1 ∙ sym u.1)
 value_longer names more (Reads q) before text h = refl
@@ -237,11 +238,11 @@ new_formed names d _ row s = tt
 abbrev pub IsOwned : NamesByKind → NameKind → List FieldValue → Type 0
 IsOwned names k vs = (place : ℕ) × ((value_at vs 1 ≡ Place place) × (place < length (names k)))
 
-owned : (names : NamesByKind) (k : NameKind) (rules : List FieldRule) (row : Row) → 2 ≤ length row → first_some (field_faults names 1 Nothing (Word ∷ Uses k ∷ rules) row) ≡ None → IsOwned names k (values names (Word ∷ Uses k ∷ rules) row)
+owned : (names : NamesByKind) (k : NameKind) (rules : List FieldRule) (row : Row) → 2 ≤ length row → first_some (field_faults names 1 Nothing (Word ∷ BelongsTo k ∷ rules) row) ≡ None → IsOwned names k (values names (Word ∷ BelongsTo k ∷ rules) row)
 owned names k rules [] l h = absurd (omega arith)
 owned names k rules (word ∷ []) l h = absurd (omega arith)
 owned names k rules (word ∷ text ∷ row) l h =
-    let u = used (place_of (names k) text) (none_first 2 (use_fault (place_of (names k) text)) (field_faults names 3 (value names (Uses k) text) rules row) h).0 in
+    let u = used (place_of (names k) text) (none_first 2 (use_fault (place_of (names k) text)) (field_faults names 3 (value names (BelongsTo k) text) rules row) h).0 in
     (u.0, (ap place_value u.1, place_within (bytes_eq text) (names k) u.0 u.1))
 
 -- the kind of the items to which records of this kind belong

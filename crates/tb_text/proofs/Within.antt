@@ -31,7 +31,7 @@ use Rattle.tb_text.specs.Records.{Row, first_some, head_dimension, said_by, text
 use Rattle.tb_text.proofs.Fields.{unless_ok}
 use Rattle.tb_text.proofs.Holding.{dimension_is, fault_behind, holds_none, no_names_in, rows_more, taken}
 use Rattle.tb_text.proofs.Kept.{keeps_kind}
-use Rattle.tb_text.proofs.Places.{none_passes}
+use Rattle.tb_text.proofs.NamePlaces.{none_passes}
 use Rattle.tb_text.proofs.Saying.{Says, says}
 use Rattle.tb_text.proofs.Settled.{neither, sound}
 use Rattle.tb_text.proofs.SoFar.{AreKept, AreTexts, Grows, PartSoFar, chi_more, part_more, psi_more}

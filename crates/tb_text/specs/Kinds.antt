@@ -6,8 +6,10 @@ use Rattle.tb_text.specs.declared.kinds.NameKind.{NameKind}
 use Rattle.tb_text.specs.declared.kinds.NameKind.TheVariants as name
 use Rattle.tb_detail.specs.declared.quantity.Quantity.{Quantity}
 use Rattle.tb_detail.specs.declared.quantity.Quantity.TheVariants as quantity
+use Rattle.tb_text.specs.declared.kinds.FieldCount.{FieldCount}
+use Rattle.tb_text.specs.declared.kinds.FieldCount.TheVariants.{Exactly, ByDimension, Between, OnePerSection}
 use Rattle.tb_text.specs.declared.kinds.FieldRule.{FieldRule}
-use Rattle.tb_text.specs.declared.kinds.FieldRule.TheVariants.{Word, Declares, Uses, UsesOther, Reads, ReadsAbove, ReadsPsi, ReadsPsiFrom}
+use Rattle.tb_text.specs.declared.kinds.FieldRule.TheVariants.{Word, Declares, BelongsTo, Uses, UsesOther, Reads, ReadsAbove, ReadsPsi, ReadsPsiFrom}
 
 abbrev pub all_kinds : List RecordKind
 all_kinds =
@@ -44,13 +46,27 @@ fields kind.Part =
     Word ∷ Declares name.Part ∷ Reads quantity.Resistance ∷ Reads quantity.Resistance
     ∷ Reads quantity.Section ∷ Reads quantity.Section ∷ Reads quantity.Section ∷ Reads quantity.Section ∷ []
 fields kind.Layer =
-    Word ∷ Uses name.Part ∷ Reads quantity.Thickness
+    Word ∷ BelongsTo name.Part ∷ Reads quantity.Thickness
     ∷ Uses name.Material ∷ Uses name.Material ∷ Uses name.Material ∷ Uses name.Material ∷ []
 fields kind.Psi = Word ∷ Declares name.Psi ∷ Uses name.Environment ∷ UsesOther name.Environment ∷ []
-fields kind.Length = Word ∷ Uses name.Psi ∷ Uses name.Part ∷ Reads quantity.Length ∷ []
+fields kind.Length = Word ∷ BelongsTo name.Psi ∷ Uses name.Part ∷ Reads quantity.Length ∷ []
 fields kind.Chi = Word ∷ Declares name.Chi ∷ Uses name.Environment ∷ UsesOther name.Environment ∷ []
-fields kind.Area = Word ∷ Uses name.Chi ∷ Uses name.Part ∷ Reads quantity.Area ∷ []
-fields kind.Line = Word ∷ Uses name.Chi ∷ ReadsPsi ∷ ReadsPsiFrom ∷ Reads quantity.Length ∷ []
+fields kind.Area = Word ∷ BelongsTo name.Chi ∷ Uses name.Part ∷ Reads quantity.Area ∷ []
+fields kind.Line = Word ∷ BelongsTo name.Chi ∷ ReadsPsi ∷ ReadsPsiFrom ∷ Reads quantity.Length ∷ []
+
+-- how many fields a record has
+abbrev pub field_count : RecordKind → FieldCount
+field_count kind.Environment = Exactly 2
+field_count kind.Material = Exactly 3
+field_count kind.Solid = ByDimension 6 8
+field_count kind.Air = ByDimension 7 9
+field_count kind.Part = Between 4 8
+field_count kind.Layer = OnePerSection
+field_count kind.Psi = Exactly 4
+field_count kind.Length = Exactly 4
+field_count kind.Chi = Exactly 4
+field_count kind.Area = Exactly 4
+field_count kind.Line = Exactly 5
 
 -- the kind of name that a record declares in its second field
 abbrev pub declares : RecordKind → Option NameKind

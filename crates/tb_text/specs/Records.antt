@@ -20,13 +20,15 @@ use Rattle.tb_text.specs.declared.kinds.RecordKind.{RecordKind}
 use Rattle.tb_text.specs.declared.kinds.RecordKind.TheVariants as kind
 use Rattle.tb_text.specs.declared.kinds.NameKind.TheVariants as name
 use Rattle.tb_detail.specs.declared.quantity.Quantity.{Quantity}
+use Rattle.tb_text.specs.declared.kinds.FieldCount.{FieldCount}
+use Rattle.tb_text.specs.declared.kinds.FieldCount.TheVariants.{Exactly, ByDimension, Between, OnePerSection}
 use Rattle.tb_text.specs.declared.kinds.FieldRule.{FieldRule}
-use Rattle.tb_text.specs.declared.kinds.FieldRule.TheVariants.{Word, Declares, Uses, UsesOther, Reads, ReadsAbove, ReadsPsi, ReadsPsiFrom}
+use Rattle.tb_text.specs.declared.kinds.FieldRule.TheVariants.{Word, Declares, BelongsTo, Uses, UsesOther, Reads, ReadsAbove, ReadsPsi, ReadsPsiFrom}
 use Rattle.tb_text.specs.declared.records.Said.{Said}
 use Rattle.tb_text.specs.declared.records.Said.TheVariants as said
 use Rattle.tb_text.specs.declared.values.FieldValue.{FieldValue}
 use Rattle.tb_text.specs.declared.values.FieldValue.TheVariants.{Nothing, Place, Number, Signed}
-use Rattle.tb_text.specs.Kinds.{all_kinds, fields, is_allowed, places, word}
+use Rattle.tb_text.specs.Kinds.{all_kinds, field_count, fields, is_allowed, places, word}
 use Rattle.tb_detail.specs.Names.{Text, is_name}
 use Rattle.tb_detail.specs.Quantities.{least, most}
 use Rattle.tb_text.specs.Names.{NamesByKind, name_count, place_of}
@@ -75,6 +77,7 @@ psi_value (Err f) = Nothing
 abbrev pub value : NamesByKind → FieldRule → Text → FieldValue
 value names Word text = Nothing
 value names (Declares k) text = Nothing
+value names (BelongsTo k) text = place_value (place_of (names k) text)
 value names (Uses k) text = place_value (place_of (names k) text)
 value names (UsesOther k) text = place_value (place_of (names k) text)
 value names (Reads q) text = number_value (number_reading q text)
@@ -133,6 +136,7 @@ from_fault before (Err f) = Some f
 abbrev pub field_fault : NamesByKind → FieldRule → FieldValue → Text → Option DetailKind
 field_fault names Word before text = None
 field_fault names (Declares k) before text = name_fault (names k) text
+field_fault names (BelongsTo k) before text = use_fault (place_of (names k) text)
 field_fault names (Uses k) before text = use_fault (place_of (names k) text)
 field_fault names (UsesOther k) before text = pair_fault before (place_of (names k) text)
 field_fault names (Reads q) before text = number_fault_in (number_reading q text)
@@ -176,19 +180,16 @@ abbrev pub is_layer_count : Option ℕ → ℕ → Bool
 is_layer_count None count = nat_le 4 count && nat_le count 7
 is_layer_count (Some sections) count = count == sections + 3
 
+-- whether this is such a number of fields
+abbrev pub is_counted : ℕ → Option ℕ → FieldCount → ℕ → Bool
+is_counted dimension sections (Exactly n) count = count == n
+is_counted dimension sections (ByDimension flat deep) count = count == (if dimension == 2 then flat else deep)
+is_counted dimension sections (Between low high) count = nat_le low count && nat_le count high
+is_counted dimension sections OnePerSection count = is_layer_count sections count
+
 -- whether a record has as many fields as its kind asks for
 abbrev pub is_count : ℕ → Option ℕ → RecordKind → ℕ → Bool
-is_count dimension sections kind.Environment count = count == 2
-is_count dimension sections kind.Material count = count == 3
-is_count dimension sections kind.Solid count = count == (if dimension == 2 then 6 else 8)
-is_count dimension sections kind.Air count = count == (if dimension == 2 then 7 else 9)
-is_count dimension sections kind.Part count = nat_le 4 count && nat_le count 8
-is_count dimension sections kind.Layer count = is_layer_count sections count
-is_count dimension sections kind.Psi count = count == 4
-is_count dimension sections kind.Length count = count == 4
-is_count dimension sections kind.Chi count = count == 4
-is_count dimension sections kind.Area count = count == 4
-is_count dimension sections kind.Line count = count == 5
+is_count dimension sections k count = is_counted dimension sections (field_count k) count
 
 abbrev pub part_layers : Part → ℕ
 part_layers p = length p.layers

@@ -1,7 +1,7 @@
 // What each kind of record is: its word, its fields in order, how many there are, and the dimensions
 // in which it stands.
 ghost use Rattle.std.specs.Prelude.{◌≡◌, ◌≤◌, length};
-ghost use Rattle.tb_text.specs.Kinds.{all_kinds, declares, fields, is_allowed, places, word};
+ghost use Rattle.tb_text.specs.Kinds.{all_kinds, declares, field_count, fields, is_allowed, places, word};
 
 use tb_detail::Quantity;
 
@@ -31,6 +31,19 @@ pub enum NameKind {
     Chi,
 }
 
+/// How many fields a record has.
+#[derive(Clone, Copy)]
+pub enum FieldCount {
+    /// So many.
+    Exactly(usize),
+    /// So many in dimension 2, and so many in dimension 3.
+    ByDimension(usize, usize),
+    /// At least the first, and at most the second.
+    Between(usize, usize),
+    /// One for each section of the part that the record belongs to, behind three others.
+    OnePerSection,
+}
+
 /// What a field is, and what it is compared with.
 #[derive(Clone, Copy)]
 pub enum FieldRule {
@@ -38,6 +51,8 @@ pub enum FieldRule {
     Word,
     /// A new name.
     Declares(NameKind),
+    /// The name of the item that the record belongs to, which was declared before.
+    BelongsTo(NameKind),
     /// A name that was declared before.
     Uses(NameKind),
     /// A name that was declared before, and isn't that of the field before.
@@ -113,6 +128,25 @@ impl RecordKind {
         }
     }
 
+    /// How many fields such a record has.
+    pub fn field_count(self) -> FieldCount
+        ensures { result ≡ field_count self }
+    {
+        match self {
+            RecordKind::Environment => FieldCount::Exactly(2),
+            RecordKind::Material => FieldCount::Exactly(3),
+            RecordKind::Solid => FieldCount::ByDimension(6, 8),
+            RecordKind::Air => FieldCount::ByDimension(7, 9),
+            RecordKind::Part => FieldCount::Between(4, 8),
+            RecordKind::Layer => FieldCount::OnePerSection,
+            RecordKind::Psi => FieldCount::Exactly(4),
+            RecordKind::Length => FieldCount::Exactly(4),
+            RecordKind::Chi => FieldCount::Exactly(4),
+            RecordKind::Area => FieldCount::Exactly(4),
+            RecordKind::Line => FieldCount::Exactly(5),
+        }
+    }
+
     /// The kind of the name that such a record declares in its second field.
     pub fn declares(self) -> Option<NameKind>
         ensures { result ≡ declares self }
@@ -183,7 +217,7 @@ const PART: [FieldRule; 8] = [
 
 const LAYER: [FieldRule; 7] = [
     FieldRule::Word,
-    FieldRule::Uses(NameKind::Part),
+    FieldRule::BelongsTo(NameKind::Part),
     FieldRule::Reads(Quantity::Thickness),
     FieldRule::Uses(NameKind::Material),
     FieldRule::Uses(NameKind::Material),
@@ -200,7 +234,7 @@ const PSI: [FieldRule; 4] = [
 
 const LENGTH: [FieldRule; 4] = [
     FieldRule::Word,
-    FieldRule::Uses(NameKind::Psi),
+    FieldRule::BelongsTo(NameKind::Psi),
     FieldRule::Uses(NameKind::Part),
     FieldRule::Reads(Quantity::Length),
 ];
@@ -214,20 +248,20 @@ const CHI: [FieldRule; 4] = [
 
 const AREA: [FieldRule; 4] = [
     FieldRule::Word,
-    FieldRule::Uses(NameKind::Chi),
+    FieldRule::BelongsTo(NameKind::Chi),
     FieldRule::Uses(NameKind::Part),
     FieldRule::Reads(Quantity::Area),
 ];
 
 const LINE: [FieldRule; 5] = [
     FieldRule::Word,
-    FieldRule::Uses(NameKind::Chi),
+    FieldRule::BelongsTo(NameKind::Chi),
     FieldRule::ReadsPsi,
     FieldRule::ReadsPsiFrom,
     FieldRule::Reads(Quantity::Length),
 ];
 
-// The decimal places of a number of a quantity, and so its unit.
+/// The decimal places of a number of a quantity, and so its unit.
 pub fn places(quantity: Quantity) -> u8
     ensures places { result ≡ places quantity }
     ensures few { result ≤ 8 }

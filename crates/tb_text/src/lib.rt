@@ -43,4 +43,6 @@ mod values;
 
 pub use builder::{DetailBuilder, read_detail};
 pub use fault::{DetailFault, DetailKind, DetailRefusal};
+pub use kinds::{FieldCount, FieldRule, NameKind, RecordKind, places};
 pub use laws::{number_of_no_record, read_details_are_in_limits, refusals_stay};
+pub use values::{FieldValue, Values};

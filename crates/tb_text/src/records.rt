@@ -10,7 +10,7 @@ ghost use Rattle.tb_text.specs.Records.{field_fault, field_faults, first_some, f
 ghost use Rattle.tb_text.specs.declared.values.FieldValue.TheVariants.{Nothing};
 
 use crate::fault::{DetailKind, FieldFault};
-use crate::kinds::{FieldRule, NameKind, RecordKind, places};
+use crate::kinds::{FieldCount, FieldRule, NameKind, RecordKind, places};
 use crate::names::Names;
 use crate::values::{FieldValue, Values};
 use tb_detail::{
@@ -112,6 +112,10 @@ fn read_field(
     match rule {
         FieldRule::Word => Ok(FieldValue::Nothing),
         FieldRule::Declares(kind) => read_new_name(names, kind, text),
+        FieldRule::BelongsTo(kind) => match names.place(kind, text) {
+            Some(place) => Ok(FieldValue::Place(place)),
+            None => Err(DetailKind::UnknownName),
+        },
         FieldRule::Uses(kind) => match names.place(kind, text) {
             Some(place) => Ok(FieldValue::Place(place)),
             None => Err(DetailKind::UnknownName),
@@ -185,19 +189,16 @@ fn is_count(names: &Names, detail: &Detail, kind: RecordKind, row: &ByteRecord) 
         result ≡ is_count detail.now.dimension sections kind (length row) }
 {
     let count = row.len();
-    let flat = detail.dimension == 2;
-    match kind {
-        RecordKind::Environment => count == 2,
-        RecordKind::Material => count == 3,
-        RecordKind::Solid => count == if flat { 6 } else { 8 },
-        RecordKind::Air => count == if flat { 7 } else { 9 },
-        RecordKind::Part => 4 <= count && count <= 8,
-        RecordKind::Layer => match sections_of(names, detail, row) {
+    match kind.field_count() {
+        FieldCount::Exactly(fields) => count == fields,
+        FieldCount::ByDimension(flat, deep) => {
+            count == if detail.dimension == 2 { flat } else { deep }
+        }
+        FieldCount::Between(least, most) => least <= count && count <= most,
+        FieldCount::OnePerSection => match sections_of(names, detail, row) {
             None => 4 <= count && count <= 7,
             Some(sections) => count >= 3 && count - 3 == sections,
         },
-        RecordKind::Psi | RecordKind::Length | RecordKind::Chi | RecordKind::Area => count == 4,
-        RecordKind::Line => count == 5,
     }
 }
 

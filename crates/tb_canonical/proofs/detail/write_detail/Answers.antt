@@ -1,7 +1,8 @@
-use Rattle.tb_outside.proofs.Gathered.{gathers_flushed}
-use Rattle.tb_canonical.specs.Canonical.{canonical_text}
+use Rattle.tb_outside.proofs.Gathered.{faults_told, written}
 use Rattle.tb_canonical.proofs.detail.write_detail.Goals as goal
 
 pub returns-clause-writes : goal.returns-clause-writes
-returns-clause-writes g c =
-    gathers_flushed _ _ _ (canonical_text c.args.detail.now) _ _ (rw c.new-buffer.ensures at c.in_ok-put_detail.ensures.gathers) c.flush.ensures.writes
+returns-clause-writes g c = written _ (rw c.new-buffer.ensures at c.put_detail.ensures) c.flush.ensures.gathers c.flush.ensures.tells
+
+pub returns-clause-faults : goal.returns-clause-faults
+returns-clause-faults g c = faults_told _ (rw c.new-buffer.ensures at c.put_detail.ensures) c.flush.ensures.gathers c.flush.ensures.tells

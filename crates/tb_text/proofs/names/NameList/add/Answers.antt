@@ -2,7 +2,7 @@ use Rattle.std.proofs.Common.{◌∙◌, ◌++◌, ◌∷◌, [], ap, ℕ, List,
 use Rattle.std.proofs.lemmas.List.{length-map}
 use Rattle.std.specs.Str.{bytes_eq}
 use Rattle.tb_text.specs.Names.{place_of}
-use Rattle.tb_text.proofs.Places.{added, few_after}
+use Rattle.tb_text.proofs.NamePlaces.{added, few_after}
 use Rattle.tb_text.proofs.names.NameList.add.Goals as goal
 
 pub returns-clause-added : goal.returns-clause-added

@@ -1,7 +1,7 @@
 use Rattle.std.proofs.Common.{◌∙◌, ap, ℕ, List, arith, ◌<◌, length}
 use Rattle.std.specs.Str.{bytes_eq}
 use Rattle.tb_text.specs.Names.{place_of}
-use Rattle.tb_text.proofs.Places.{position_map}
+use Rattle.tb_text.proofs.NamePlaces.{position_map}
 use Rattle.tb_text.proofs.names.NameList.place.Goals as goal
 
 pub returns-in-Some : goal.returns-in-Some
