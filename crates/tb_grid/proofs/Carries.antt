@@ -1,7 +1,7 @@
 -- A level grid has all base lines, and begins and ends with them.
 use Rattle.std.proofs.Common.{◌≡◌, ℕ, zero, suc, ◌-◌, ◌<◌, ◌≤◌, inl, List, [], ◌∷◌, ◌++◌, length, get_or, refl, sym, ◌∙◌, arith}
 use Rattle.std.specs.List.{Contains}
-use Rattle.tb_grid.specs.Cuts.{cuts}
+use Rattle.tb_grid.specs.CutPoints.{cuts}
 use Rattle.tb_grid.proofs.CutLines.{cut_after, cut_lines, halved}
 use Rattle.tb_grid.specs.Level.{IsHalvedTimes, IsLevelGrid, never, once_more}
 use Rattle.std.specs.List.Sorted.{IsStrictlyIncreasing}

@@ -1,7 +1,7 @@
 -- Lines with their cut points as a list, and how many lines the level grid has as a sum.
 use Rattle.std.proofs.Common.{◌≡◌, ℕ, zero, suc, ◌+◌, ◌-◌, ◌<◌, List, [], ◌∷◌, ◌++◌, length, get_or, drop, refl, arith}
 use Rattle.std.proofs.lemmas.List.{drop_all, drop_more}
-use Rattle.tb_grid.specs.Cuts.{cuts, pieces_graded}
+use Rattle.tb_grid.specs.CutPoints.{cuts, pieces_graded}
 
 -- the lines after p, with the cut points before each
 abbrev pub cut_after : ℕ → ℕ → List ℕ → List ℕ

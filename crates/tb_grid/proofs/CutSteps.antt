@@ -1,6 +1,6 @@
 -- The steps of cut points and pieces: where there is one more, and where there is none.
 use Rattle.std.proofs.Common.{◌≡◌, ℕ, zero, suc, ◌+◌, ◌-◌, ◌/◌, ◌<◌, [], ◌∷◌, ◌++◌, refl, arith}
-use Rattle.tb_grid.specs.Cuts.{low_cuts, high_cuts, cuts, cuts_round, pieces, pieces_towards, pieces_graded, pieces_round}
+use Rattle.tb_grid.specs.CutPoints.{low_cuts, high_cuts, cuts, cuts_round, pieces, pieces_towards, pieces_graded, pieces_round}
 
 -- ---- cut points
 pub low_more : (n p c : ℕ) → 0 < n → 0 < c → low_cuts n p c ≡ low_cuts (n - 1) p (c / 2) ++ (p + c) ∷ []

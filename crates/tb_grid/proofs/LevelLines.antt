@@ -5,7 +5,7 @@ use Rattle.std.specs.List.Sorted.{IsStrictlyIncreasing}
 use Rattle.std.proofs.lemmas.List.Elements.{Contains-append_cases, Contains-append_left, Contains-append_right}
 use Rattle.tb_grid.specs.Level.{HasInterval, IsCutPoint, IsGraded, IsHalved, IsHalvedTimes, IsLevelGrid, IsMiddle, IsTooFine, never, once_more, share}
 use Rattle.tb_grid.specs.Axis.{most_lines}
-use Rattle.tb_grid.specs.Cuts.{cuts}
+use Rattle.tb_grid.specs.CutPoints.{cuts}
 use Rattle.tb_grid.proofs.CutLines.{cut_after, cut_lines, halved, level_count}
 use Rattle.tb_grid.proofs.Pieces.{level_counted}
 use Rattle.tb_grid.proofs.Rises.{cut_increases}

@@ -14,3 +14,5 @@ pub mod Shares
 pub mod Through
 pub mod Volumes
 pub mod Within
+pub mod MovedPlaces
+pub mod MovedNumbers

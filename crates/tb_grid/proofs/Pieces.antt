@@ -3,7 +3,7 @@
 use Rattle.std.proofs.Common.{◌≡◌, ℕ, zero, suc, ◌+◌, ◌-◌, ◌/◌, ◌^◌, ◌<◌, ◌≤◌, min, List, [], ◌∷◌, ◌++◌, length, refl, ap, ◌∙◌, arith, append_assoc, get_or}
 use Rattle.std.proofs.Math.Nat.{two-pow-succ}
 use Rattle.std.proofs.Math.Pow.{pow_pos}
-use Rattle.tb_grid.specs.Cuts.{low_cuts, high_cuts, cuts_round, cuts, pieces, pieces_towards, pieces_round, pieces_graded}
+use Rattle.tb_grid.specs.CutPoints.{low_cuts, high_cuts, cuts_round, cuts, pieces, pieces_towards, pieces_round, pieces_graded}
 use Rattle.tb_grid.proofs.CutLines.{cut_after, cut_lines, halved, pieces_after, level_count}
 use Rattle.std.specs.List.Sorted.{IsStrictlyIncreasing}
 use Rattle.tb_grid.proofs.Rises.{RisesFrom, rises_from, cut_increases}

@@ -1,7 +1,7 @@
 -- Lines with their cut points rise.
 use Rattle.std.proofs.Common.{◌≡◌, ℕ, zero, suc, ◌+◌, ◌-◌, ◌/◌, ◌<◌, List, [], ◌∷◌, ◌++◌, get_or, refl, subst, arith, append_assoc}
 use Rattle.std.specs.List.Sorted.{IsStrictlyIncreasing}
-use Rattle.tb_grid.specs.Cuts.{low_cuts, high_cuts, cuts_round, cuts}
+use Rattle.tb_grid.specs.CutPoints.{low_cuts, high_cuts, cuts_round, cuts}
 use Rattle.tb_grid.proofs.CutLines.{cut_after, cut_lines}
 use Rattle.tb_grid.proofs.Through.{tail_rises}
 

@@ -4,7 +4,7 @@ use Rattle.std.proofs.Math.Nat.{div-div-eq-div-mul, div-one, zero-div, pow-succ'
 use Rattle.std.specs.List.{Contains}
 use Rattle.std.proofs.lemmas.List.Elements.{Contains-append_cases, Contains-append_left, Contains-append_right}
 use Rattle.tb_grid.specs.Level.{IsCutOf, share}
-use Rattle.tb_grid.specs.Cuts.{low_cuts, high_cuts, cuts_round, cuts}
+use Rattle.tb_grid.specs.CutPoints.{low_cuts, high_cuts, cuts_round, cuts}
 use Rattle.tb_grid.proofs.Through.{member_cases, first_member, later_member, no_member}
 
 -- half of a distance, halved i times, is the distance halved once more

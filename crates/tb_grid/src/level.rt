@@ -2,7 +2,7 @@
 ghost use Rattle.std.specs.Prelude.{◌≡◌, ◌↔◌, ◌+◌, ◌-◌, ◌^◌, ◌<◌, ◌≤◌, ◌++◌, ℕ, List, length, slice_index, Contains, IfOk, OnOk, min};
 ghost use Rattle.std.specs.List.Sorted.{IsStrictlyIncreasing};
 ghost use Rattle.tb_grid.specs.Axis.{IsAxis};
-ghost use Rattle.tb_grid.specs.Cuts.{cuts, high_cuts, low_cuts, pieces_graded, pieces_towards};
+ghost use Rattle.tb_grid.specs.CutPoints.{cuts, high_cuts, low_cuts, pieces_graded, pieces_towards};
 ghost use Rattle.tb_grid.specs.Level.{IsGraded, IsLevelGrid, IsTooFine};
 
 use crate::axis::{Axis, MOST_LINES};

@@ -7,6 +7,7 @@
 
 mod axis;
 mod counts;
+pub mod cuts;
 mod direction;
 mod grid;
 mod ids;

@@ -1,5 +1,5 @@
 use Rattle.std.proofs.Common.{◌≡◌, ◌-◌, ◌/◌, ◌++◌, ℕ, List, OnOk, append_assoc, arith, subst}
-use Rattle.tb_grid.specs.Cuts.{high_cuts}
+use Rattle.tb_grid.specs.CutPoints.{high_cuts}
 use Rattle.tb_grid.proofs.CutSteps.{high_more}
 use Rattle.tb_grid.proofs.level.+push_high_cuts.Goals as goal
 
