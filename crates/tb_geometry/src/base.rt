@@ -11,7 +11,7 @@ use crate::boxes::{high, low};
 use crate::fault::{BodyFault, BodyRefusal};
 use std::alloc::{AllocError, Global};
 use tb_detail::SpaceBox;
-use tb_grid::{Axis, AxisName, CellId, Grid, TooManyCells};
+use tb_grid::{Axis, AxisName, CellId, Grid, TooManyCells, lines_through};
 
 // All coordinates of boxes on an axis, box after box.
 fn coordinates(alloc: Global, axis: AxisName, boxes: &[SpaceBox]) -> Result<Vec<u32>, AllocError>
@@ -23,6 +23,14 @@ fn coordinates(alloc: Global, axis: AxisName, boxes: &[SpaceBox]) -> Result<Vec<
         all.push(high(axis, b))?;
     }
     Ok(all)
+}
+
+/// The base lines of boxes on an axis: a line at each of their coordinates, in rising order, and no other. There is none
+/// without a box.
+pub fn base_lines(alloc: Global, axis: AxisName, boxes: &[SpaceBox]) -> Result<Vec<u32>, AllocError>
+    ensures { IfOk result (λ lines. lines.items ≡ base_lines axis boxes.now) }
+{
+    Ok(lines_through(coordinates(alloc, axis, boxes)?))
 }
 
 /// The axis of the base grid of that name.

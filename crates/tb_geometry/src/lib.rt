@@ -25,6 +25,7 @@ mod painting;
 #[cfg(test)]
 mod tests;
 
+pub use base::base_lines;
 pub use body::Body;
 pub use case::{Case, CaseList, cases};
 pub use fault::{BodyFault, BodyRefusal};

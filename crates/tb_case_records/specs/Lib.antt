@@ -1,0 +1,5 @@
+pub mod Ahead
+pub mod Cases
+pub mod Faults
+pub mod Rows
+pub mod Table
