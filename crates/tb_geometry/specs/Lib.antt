@@ -2,6 +2,7 @@ pub mod Base
 pub mod Bodies
 pub mod Cubes
 pub mod Faults
+pub mod FaultTexts
 pub mod Tests
 pub mod Steps
 pub mod Painting

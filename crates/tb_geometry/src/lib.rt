@@ -14,6 +14,7 @@ mod boxes;
 mod case;
 mod cells;
 mod fault;
+mod fault_text;
 #[cfg(test)]
 mod grid_tests;
 mod grids;

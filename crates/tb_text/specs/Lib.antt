@@ -1,6 +1,7 @@
 pub mod Builders
 pub mod Details
 pub mod Drafts
+pub mod FaultTexts
 pub mod Kinds
 pub mod NameLists
 pub mod Names

@@ -32,6 +32,7 @@
 mod builder;
 mod draft;
 mod fault;
+mod fault_text;
 mod items;
 mod kinds;
 mod laws;

@@ -1,3 +1,4 @@
+pub mod Endings
 pub mod Fields
 pub mod Runs
 pub mod WallBalance
@@ -7,4 +8,4 @@ pub mod WallGrid
 pub mod WallLimits
 pub mod WallSound
 pub mod WallTerms
-pub mod WallVerdict
+pub mod WallAnswers

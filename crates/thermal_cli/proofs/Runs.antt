@@ -1,189 +1,172 @@
 -- What follows from what a run tells.
-use Rattle.std.proofs.Common.{◌≡◌, ◌<◌, ◌≤◌, ◌+◌, ◌⊎◌, ◌++◌, ℕ, List, Option, Some, None, Result, Ok, Err, Bool, true, false, length, inl, inr, refl, sym, ap, ◌∙◌, arith, codes, length-append, subst, append-nil}
-use Rattle.std.specs.Prelude.{◌==◌, if◌then◌else◌}
+use Rattle.std.proofs.Common.{◌≡◌, ◌<◌, ◌≤◌, ◌+◌, ◌⊎◌, ◌++◌, ℕ, List, Bool, true, false, Option, Some, None, length, inl, inr, refl, sym, ap, ◌∙◌, arith, codes, length-append, subst, append-nil}
+use Rattle.tb_outside.specs.Faults.{Rose, Stands}
+use Rattle.tb_outside.specs.Limits.{most_input_bytes}
 use Rattle.tb_outside.specs.Outside.{Adds, IsAtEnd, Takes, TakesExactly}
-use Rattle.tb_detail.specs.declared.Detail.{Detail}
-use Rattle.tb_records.specs.Records.{records_of}
-use Rattle.tb_text.specs.declared.fault.DetailFault.{DetailFault}
-use Rattle.tb_text.specs.Reading.{detail_reading, numbered}
 use Rattle.tb_sums.specs.declared.Interval.{Interval}
+use Rattle.thermal_cli.specs.declared.answer.Answer.{Answer}
+use Rattle.thermal_cli.specs.declared.check.CheckAnswer.{CheckAnswer}
+use Rattle.thermal_cli.specs.declared.check.CheckAnswer.TheVariants as check
 use Rattle.thermal_cli.specs.declared.status.Status.{Status}
 use Rattle.thermal_cli.specs.declared.status.Status.TheVariants as status
-use Rattle.thermal_cli.specs.declared.telling.Answer.{Answer}
-use Rattle.thermal_cli.specs.declared.telling.Answer.TheVariants as answer
-use Rattle.thermal_cli.specs.declared.telling.Told.TheVariants as told
-use Rattle.thermal_cli.specs.declared.top.TheConstants.{INPUT_LIMIT}
+use Rattle.thermal_cli.specs.declared.told.Told.TheVariants as told
 use Rattle.thermal_cli.specs.declared.words.Command.{Command}
-use Rattle.thermal_cli.specs.declared.words.Command.TheVariants.{Check, Solve, UValue}
-use Rattle.thermal_cli.specs.Answers.{CertifiesWall, IsCertified, Judges, Says, SolveAnswers, uvalue_answer}
-use Rattle.thermal_cli.specs.Outcome.{HasReading, IsAnswered, IsInterrupted, IsRead, Runs, TellsOf, WritesFrontOfOne}
-use Rattle.thermal_cli.specs.Texts.{answer_status}
+use Rattle.thermal_cli.specs.declared.words.Command.TheVariants.{Check}
+use Rattle.thermal_cli.specs.Answers.{Answers, answer_message}
+use Rattle.thermal_cli.specs.Check.{CheckAnswers, check_status, check_text}
+use Rattle.thermal_cli.specs.Outcome.{HasReading, IsAnswered, IsInterrupted, IsRead, Runs, TellsAccepted, TellsOf, WritesFrontOfOne}
 use Rattle.thermal_cli.specs.Words.{command_of}
+use Rattle.thermal_cli.proofs.Endings.{IsEndingOf, answers_end}
 
--- ---- the statuses of answers
+-- ---- which status belongs to what is told
 
-abbrev IsAnswerStatus : Status → Type 0
-IsAnswerStatus s = (s ≡ status.Fine) ⊎ ((s ≡ status.Refused) ⊎ (s ≡ status.CertificateRefused))
+-- whether answers have this status
+abbrev is_of_answers : Status → Bool
+is_of_answers status.Fine = true
+is_of_answers status.Refused = true
+is_of_answers status.WidthNotReached = true
+is_of_answers status.CertificateRefused = true
+is_of_answers s = false
 
-status_answers : (a : Answer) → IsAnswerStatus (answer_status a)
-status_answers answer.NotFormat = inr (inr refl)
-status_answers (answer.Unbalanced cell sum) = inr (inr refl)
-status_answers (answer.IntervalDiffers claimed found) = inr (inr refl)
-status_answers (answer.Accepted interval) = inl refl
-status_answers (answer.FaultOfDetail f) = inr (inl refl)
-status_answers (answer.FaultOfBody f) = inr (inl refl)
-status_answers answer.NotBuilt = inr (inl refl)
-status_answers answer.NoParts = inl refl
+ends_so : (c : Command) (s : Status) → IsEndingOf c s → is_of_answers s ≡ true
+ends_so c s (inl e) = ap is_of_answers e
+ends_so c s (inr (inl e)) = ap is_of_answers e
+ends_so c s (inr (inr (inl e))) = ap is_of_answers e
+ends_so c s (inr (inr (inr e))) = ap is_of_answers e.0
 
 -- no answer has one of the other statuses
-abbrev IsOther : Status → Type 0
-IsOther s = (s ≡ status.Usage) ⊎ ((s ≡ status.NoMemory) ⊎ ((s ≡ status.SourceFault) ⊎ (s ≡ status.SinkFault)))
-
-apart : (s : Status) → IsAnswerStatus s → IsOther s → ⊥
-apart s (inl a) (inl b) = cc (a, b)
-apart s (inl a) (inr (inl b)) = cc (a, b)
-apart s (inl a) (inr (inr (inl b))) = cc (a, b)
-apart s (inl a) (inr (inr (inr b))) = cc (a, b)
-apart s (inr (inl a)) (inl b) = cc (a, b)
-apart s (inr (inl a)) (inr (inl b)) = cc (a, b)
-apart s (inr (inl a)) (inr (inr (inl b))) = cc (a, b)
-apart s (inr (inl a)) (inr (inr (inr b))) = cc (a, b)
-apart s (inr (inr a)) (inl b) = cc (a, b)
-apart s (inr (inr a)) (inr (inl b)) = cc (a, b)
-apart s (inr (inr a)) (inr (inr (inl b))) = cc (a, b)
-apart s (inr (inr a)) (inr (inr (inr b))) = cc (a, b)
-
-not_answered : (s : Status) (a : Answer) → s ≡ answer_status a → IsOther s → ⊥
-not_answered s a e o = apart s (subst IsAnswerStatus (sym e) (status_answers a)) o
-
--- the statuses of a list of U-values
-parts_status : (b : Bool) → (answer_status (if b then answer.NoParts else answer.NotBuilt) ≡ status.CertificateRefused) → ⊥
-parts_status true e = cc e
-parts_status false e = cc e
-
-uvalue_status : (r : Result Detail DetailFault) → (answer_status (uvalue_answer r) ≡ status.CertificateRefused) → ⊥
-uvalue_status (Err f) e = cc e
-uvalue_status (Ok d) e = parts_status (length d.parts == 0) e
-
-solve_status : (r : Result Detail DetailFault) (a : Answer) → SolveAnswers r a → (answer_status a ≡ status.CertificateRefused) → ⊥
-solve_status (Err f) a h e = let s = ap answer_status h in cc (s, e)
-solve_status (Ok d) answer.NotFormat h e = absurd h
-solve_status (Ok d) (answer.Unbalanced cell sum) h e = absurd h
-solve_status (Ok d) (answer.IntervalDiffers claimed found) h e = absurd h
-solve_status (Ok d) (answer.Accepted interval) h e = absurd h
-solve_status (Ok d) (answer.FaultOfDetail f) h e = absurd h
-solve_status (Ok d) (answer.FaultOfBody f) h e = cc e
-solve_status (Ok d) answer.NotBuilt h e = cc e
-solve_status (Ok d) answer.NoParts h e = absurd h
+not_answered : (c : Command) (bytes : List ℕ) (x : Answer) (s other : Status) → Answers c bytes x → s ≡ (answer_message x).status → s ≡ other → is_of_answers other ≡ false → ⊥
+not_answered c bytes x s other h e p f =
+    let t : is_of_answers s ≡ true = ap is_of_answers e ∙ ends_so c (answer_message x).status (answers_end c bytes x h) in
+    let g : is_of_answers s ≡ false = ap is_of_answers p ∙ f in
+    cc (t, g)
 
 -- only `check` refuses a certificate
-judged_by_check : (c : Command) (bytes : List ℕ) (a : Answer) → Says c bytes a → status.CertificateRefused ≡ answer_status a → c ≡ Check
-judged_by_check Check bytes a h e = refl
-judged_by_check Solve bytes a h e = absurd (solve_status (detail_reading 1 (numbered 1 (records_of bytes))) a h (sym e))
-judged_by_check UValue bytes a h e = absurd (uvalue_status (detail_reading 1 (numbered 1 (records_of bytes))) (ap answer_status (sym h) ∙ sym e))
+by_check : (c : Command) (s : Status) → IsEndingOf c s → s ≡ status.CertificateRefused → c ≡ Check
+by_check c s (inl a) e = cc (a, e)
+by_check c s (inr (inl a)) e = cc (a, e)
+by_check c s (inr (inr (inl a))) e = cc (a, e)
+by_check c s (inr (inr (inr a))) e = a.1
 
--- an accepted bundle is a wall's, and its interval is sound on its grid
-accepted_is_sound : (bytes : List ℕ) (a : Answer) → Judges bytes a → status.Fine ≡ answer_status a → CertifiesWall bytes
-accepted_is_sound bytes answer.NotFormat j e = cc e
-accepted_is_sound bytes (answer.Unbalanced cell sum) j e = cc e
-accepted_is_sound bytes (answer.IntervalDiffers claimed found) j e = cc e
-accepted_is_sound bytes (answer.Accepted interval) j e = (j.0, j.1, subst (λ (i : Interval). IsCertified j.0 i) j.2.1 j.2.3)
-accepted_is_sound bytes (answer.FaultOfDetail f) j e = cc e
-accepted_is_sound bytes (answer.FaultOfBody f) j e = cc e
-accepted_is_sound bytes answer.NotBuilt j e = cc e
-accepted_is_sound bytes answer.NoParts j e = absurd j.2
+-- what `check` accepts
+accepted : (bytes : List ℕ) (a : CheckAnswer) (holds_old holds_new : Option (List ℕ)) → CheckAnswers bytes a → status.Fine ≡ check_status a → Adds holds_old holds_new (check_text a)
+    → (i : Interval) × CheckAnswers bytes (check.Accepted i) × Adds holds_old holds_new (check_text (check.Accepted i))
+accepted bytes check.NotFormat holds_old holds_new h e w = cc e
+accepted bytes (check.Unbalanced cell sum) holds_old holds_new h e w = cc e
+accepted bytes (check.IntervalDiffers claimed found) holds_old holds_new h e w = cc e
+accepted bytes (check.Accepted i) holds_old holds_new h e w = (i, h, w)
 
 no_command : (words : List (List ℕ)) → command_of words ≡ None → HasReading words → ⊥
 no_command words e h = let f = h.1 in cc (e, f)
 
 -- ---- what each status says
 
-module _ (words : List (List ℕ)) (left_old left_new holds_old holds_new : Option (List ℕ)) (source_failed sink_failed : Type 0) where
+module _ {S K : Type 0} (left : S → Option (List ℕ)) (source_faults : S → ℕ) (holds : K → Option (List ℕ)) (sink_faults : K → ℕ) (words : List (List ℕ)) (a b : S) (k l : K) where
   abbrev Ran : Status → Type 0
-  Ran = Runs words left_old left_new source_failed holds_old holds_new sink_failed
+  Ran = Runs left source_faults holds sink_faults words a b k l
 
   -- Usage comes only for words without a reading
   pub usage_words : (s : Status) → s ≡ status.Usage → Ran s → command_of words ≡ None
-  usage_words s p (told.Usage, o, k) = o.0
-  usage_words s p (told.NoMemory, o, inl (e, a)) = cc e
-  usage_words s p (told.SourceFault, o, inl (e, a)) = cc e
-  usage_words s p (told.TooLong, o, inl (e, a)) = cc e
-  usage_words s p (told.Answered x, o, inl (e, a)) = absurd (not_answered s x e (inl p))
-  usage_words s p (t, o, inr k) = let e = k.0 in cc e
+  usage_words s p (told.Usage, o, inl t) = o.0
+  usage_words s p (told.NoMemory, o, inl t) = let e = t.0 in cc (e, p)
+  usage_words s p (told.SourceFault, o, inl t) = let e = t.0 in cc (e, p)
+  usage_words s p (told.TooLong, o, inl t) = let e = t.0 in cc (e, p)
+  usage_words s p (told.Answered x, o, inl t) = absurd (not_answered o.0 o.2 x s _ o.4 t.0 p refl)
+  usage_words s p (x, o, inr t) = let e = t.0 in cc (e, p)
 
   -- words without a reading are told so, and the source is untouched
-  pub no_reading : (s : Status) → command_of words ≡ None → Ran s → ((s ≡ status.Usage) ⊎ (s ≡ status.SinkFault)) × (left_new ≡ left_old)
-  no_reading s h (told.Usage, o, inl (e, a)) = (inl e, o.1)
-  no_reading s h (told.Usage, o, inr k) = (inr k.0, o.1)
-  no_reading s h (told.NoMemory, o, k) = absurd (no_command words h o.0)
-  no_reading s h (told.SourceFault, o, k) = absurd (no_command words h o.0)
-  no_reading s h (told.TooLong, o, k) = absurd (no_command words h o.0)
-  no_reading s h (told.Answered x, o, k) = absurd (no_command words h (o.0, o.1))
+  pub no_reading : (s : Status) → command_of words ≡ None → Ran s → ((s ≡ status.Usage) ⊎ (s ≡ status.SinkFault)) × (b ≡ a)
+  no_reading s h (told.Usage, o, inl t) = (inl t.0, o.1)
+  no_reading s h (told.Usage, o, inr t) = (inr t.0, o.1)
+  no_reading s h (told.NoMemory, o, t) = absurd (no_command words h o.0)
+  no_reading s h (told.SourceFault, o, t) = absurd (no_command words h o.0)
+  no_reading s h (told.TooLong, o, t) = absurd (no_command words h o.0)
+  no_reading s h (told.Answered x, o, t) = absurd (no_command words h (o.0, o.1))
 
   -- a source's fault has its cause, and its line alone is written
-  pub source_fault : (s : Status) → s ≡ status.SourceFault → Ran s → source_failed × Adds holds_old holds_new (codes "refused,SourceFault\n")
-  source_fault s p (told.Usage, o, inl (e, a)) = cc e
-  source_fault s p (told.NoMemory, o, inl (e, a)) = cc e
-  source_fault s p (told.SourceFault, o, inl (e, a)) = (o.2, a)
-  source_fault s p (told.TooLong, o, inl (e, a)) = cc e
-  source_fault s p (told.Answered x, o, inl (e, a)) = absurd (not_answered s x e (inr (inr (inl p))))
-  source_fault s p (t, o, inr k) = let e = k.0 in cc e
+  pub source_fault : (s : Status) → s ≡ status.SourceFault → Ran s → Rose (source_faults a) (source_faults b) × Adds (holds k) (holds l) (codes "refused,SourceFault\n")
+  source_fault s p (told.Usage, o, inl t) = let e = t.0 in cc (e, p)
+  source_fault s p (told.NoMemory, o, inl t) = let e = t.0 in cc (e, p)
+  source_fault s p (told.SourceFault, o, inl t) = (o.2, t.1)
+  source_fault s p (told.TooLong, o, inl t) = let e = t.0 in cc (e, p)
+  source_fault s p (told.Answered x, o, inl t) = absurd (not_answered o.0 o.2 x s _ o.4 t.0 p refl)
+  source_fault s p (x, o, inr t) = let e = t.0 in cc (e, p)
 
   -- want of memory is told alone
-  pub no_memory : (s : Status) → s ≡ status.NoMemory → Ran s → Adds holds_old holds_new (codes "refused,NoMemory\n")
-  no_memory s p (told.Usage, o, inl (e, a)) = cc e
-  no_memory s p (told.NoMemory, o, inl (e, a)) = a
-  no_memory s p (told.SourceFault, o, inl (e, a)) = cc e
-  no_memory s p (told.TooLong, o, inl (e, a)) = cc e
-  no_memory s p (told.Answered x, o, inl (e, a)) = absurd (not_answered s x e (inr (inl p)))
-  no_memory s p (t, o, inr k) = let e = k.0 in cc e
+  pub no_memory : (s : Status) → s ≡ status.NoMemory → Ran s → Adds (holds k) (holds l) (codes "refused,NoMemory\n")
+  no_memory s p (told.Usage, o, inl t) = let e = t.0 in cc (e, p)
+  no_memory s p (told.NoMemory, o, inl t) = t.1
+  no_memory s p (told.SourceFault, o, inl t) = let e = t.0 in cc (e, p)
+  no_memory s p (told.TooLong, o, inl t) = let e = t.0 in cc (e, p)
+  no_memory s p (told.Answered x, o, inl t) = absurd (not_answered o.0 o.2 x s _ o.4 t.0 p refl)
+  no_memory s p (x, o, inr t) = let e = t.0 in cc (e, p)
 
   -- a sink's fault has its cause, and a front of the text was written
-  pub sink_fault : (s : Status) → s ≡ status.SinkFault → Ran s → sink_failed × WritesFrontOfOne words left_old left_new source_failed holds_old holds_new
-  sink_fault s p (told.Usage, o, inl (e, a)) = cc e
-  sink_fault s p (told.NoMemory, o, inl (e, a)) = cc e
-  sink_fault s p (told.SourceFault, o, inl (e, a)) = cc e
-  sink_fault s p (told.TooLong, o, inl (e, a)) = cc e
-  sink_fault s p (told.Answered x, o, inl (e, a)) = absurd (not_answered s x e (inr (inr (inr p))))
-  sink_fault s p (t, o, inr k) = (k.1, (t, o, k.2))
+  pub sink_fault : (s : Status) → s ≡ status.SinkFault → Ran s → Rose (sink_faults k) (sink_faults l) × WritesFrontOfOne left source_faults words a b (holds k) (holds l)
+  sink_fault s p (told.Usage, o, inl t) = let e = t.0 in cc (e, p)
+  sink_fault s p (told.NoMemory, o, inl t) = let e = t.0 in cc (e, p)
+  sink_fault s p (told.SourceFault, o, inl t) = let e = t.0 in cc (e, p)
+  sink_fault s p (told.TooLong, o, inl t) = let e = t.0 in cc (e, p)
+  sink_fault s p (told.Answered x, o, inl t) = absurd (not_answered o.0 o.2 x s _ o.4 t.0 p refl)
+  sink_fault s p (x, o, inr t) = (t.2, (x, o, t.1))
+
+  -- a fault that was counted is told
+  pub source_faults_told : (s : Status) → Ran s → Stands (source_faults a) (source_faults b) ⊎ ((s ≡ status.SourceFault) ⊎ (s ≡ status.SinkFault))
+  source_faults_told s (told.Usage, o, t) = inl (ap source_faults o.1)
+  source_faults_told s (told.NoMemory, o, t) = inl o.2
+  source_faults_told s (told.SourceFault, o, inl t) = inr (inl t.0)
+  source_faults_told s (told.SourceFault, o, inr t) = inr (inr t.0)
+  source_faults_told s (told.TooLong, o, t) = inl o.2
+  source_faults_told s (told.Answered x, o, t) = inl o.5
+
+  pub sink_faults_told : (s : Status) → Ran s → Stands (sink_faults k) (sink_faults l) ⊎ (s ≡ status.SinkFault)
+  sink_faults_told s (x, o, inl t) = inl t.2
+  sink_faults_told s (x, o, inr t) = inr t.0
 
   -- an input is refused for its length, or by the command
-  pub refused : (s : Status) → s ≡ status.Refused → Ran s → (TakesExactly left_old left_new (INPUT_LIMIT + 1) × Adds holds_old holds_new (codes "refused,TooLong\n")) ⊎ IsAnswered words left_old left_new holds_old holds_new status.Refused
-  refused s p (told.Usage, o, inl (e, a)) = cc e
-  refused s p (told.NoMemory, o, inl (e, a)) = cc e
-  refused s p (told.SourceFault, o, inl (e, a)) = cc e
-  refused s p (told.TooLong, o, inl (e, a)) = inl (o.1, a)
-  refused s p (told.Answered x, o, inl (e, a)) = inr (o.0, o.1, o.2, o.3, (x, o.4, sym p ∙ e, a))
-  refused s p (t, o, inr k) = let e = k.0 in cc e
+  pub refused : (s : Status) → s ≡ status.Refused → Ran s → (TakesExactly (left a) (left b) (most_input_bytes + 1) × Adds (holds k) (holds l) (codes "refused,TooLong\n")) ⊎ IsAnswered words (left a) (left b) (holds k) (holds l) status.Refused
+  refused s p (told.Usage, o, inl t) = let e = t.0 in cc (e, p)
+  refused s p (told.NoMemory, o, inl t) = let e = t.0 in cc (e, p)
+  refused s p (told.SourceFault, o, inl t) = let e = t.0 in cc (e, p)
+  refused s p (told.TooLong, o, inl t) = inl (o.1, t.1)
+  refused s p (told.Answered x, o, inl t) = inr (o.0, o.1, o.2, o.3, (x, o.4, sym p ∙ t.0, t.1))
+  refused s p (x, o, inr t) = let e = t.0 in cc (e, p)
 
-  -- an input that is answered was read to its end
-  pub fine : (s : Status) → s ≡ status.Fine → Ran s → IsAnswered words left_old left_new holds_old holds_new status.Fine
-  fine s p (told.Usage, o, inl (e, a)) = cc e
-  fine s p (told.NoMemory, o, inl (e, a)) = cc e
-  fine s p (told.SourceFault, o, inl (e, a)) = cc e
-  fine s p (told.TooLong, o, inl (e, a)) = cc e
-  fine s p (told.Answered x, o, inl (e, a)) = (o.0, o.1, o.2, o.3, (x, o.4, sym p ∙ e, a))
-  fine s p (t, o, inr k) = let e = k.0 in cc e
+  -- a status that only answers have: the input was read to its end
+  abbrev IsOfAnswers : Status → Type 0
+  IsOfAnswers s = (s ≡ status.Fine) ⊎ (s ≡ status.CertificateRefused)
 
-  certificate_answered : (s : Status) → s ≡ status.CertificateRefused → Ran s → IsAnswered words left_old left_new holds_old holds_new status.CertificateRefused
-  certificate_answered s p (told.Usage, o, inl (e, a)) = cc e
-  certificate_answered s p (told.NoMemory, o, inl (e, a)) = cc e
-  certificate_answered s p (told.SourceFault, o, inl (e, a)) = cc e
-  certificate_answered s p (told.TooLong, o, inl (e, a)) = cc e
-  certificate_answered s p (told.Answered x, o, inl (e, a)) = (o.0, o.1, o.2, o.3, (x, o.4, sym p ∙ e, a))
-  certificate_answered s p (t, o, inr k) = let e = k.0 in cc e
+  told_answer : (s : Status) → IsOfAnswers s → Ran s → IsAnswered words (left a) (left b) (holds k) (holds l) s
+  told_answer s (inl p) (told.Usage, o, inl t) = let e = t.0 in cc (e, p)
+  told_answer s (inr p) (told.Usage, o, inl t) = let e = t.0 in cc (e, p)
+  told_answer s (inl p) (told.NoMemory, o, inl t) = let e = t.0 in cc (e, p)
+  told_answer s (inr p) (told.NoMemory, o, inl t) = let e = t.0 in cc (e, p)
+  told_answer s (inl p) (told.SourceFault, o, inl t) = let e = t.0 in cc (e, p)
+  told_answer s (inr p) (told.SourceFault, o, inl t) = let e = t.0 in cc (e, p)
+  told_answer s (inl p) (told.TooLong, o, inl t) = let e = t.0 in cc (e, p)
+  told_answer s (inr p) (told.TooLong, o, inl t) = let e = t.0 in cc (e, p)
+  told_answer s p (told.Answered x, o, inl t) = (o.0, o.1, o.2, o.3, (x, o.4, t.0, t.1))
+  told_answer s (inl p) (x, o, inr t) = let e = t.0 in cc (e, p)
+  told_answer s (inr p) (x, o, inr t) = let e = t.0 in cc (e, p)
 
-  pub certificate_refused : (s : Status) → s ≡ status.CertificateRefused → Ran s → (command_of words ≡ Some Check) × IsAnswered words left_old left_new holds_old holds_new status.CertificateRefused
+  pub fine : (s : Status) → s ≡ status.Fine → Ran s → IsAnswered words (left a) (left b) (holds k) (holds l) status.Fine
+  fine s p r = subst (IsAnswered words (left a) (left b) (holds k) (holds l)) p (told_answer s (inl p) r)
+
+  pub certificate_refused : (s : Status) → s ≡ status.CertificateRefused → Ran s → (command_of words ≡ Some Check) × IsAnswered words (left a) (left b) (holds k) (holds l) status.CertificateRefused
   certificate_refused s p r =
-      let a = certificate_answered s p r in
-      (a.1 ∙ ap Some (judged_by_check a.0 a.2 a.4.0 a.4.1 a.4.2), a)
+      let h = subst (IsAnswered words (left a) (left b) (holds k) (holds l)) p (told_answer s (inr p) r) in
+      (h.1 ∙ ap Some (by_check h.0 _ (answers_end h.0 h.2 h.4.0 h.4.1) (sym h.4.2)), h)
 
-  -- the interval of a bundle that was accepted is sound on its grid
-  pub certified : (s : Status) → s ≡ status.Fine → command_of words ≡ Some Check → Ran s → (bytes : List ℕ) × IsRead left_old left_new bytes × CertifiesWall bytes
+  -- of a bundle that was accepted, what `check` accepts was written
+  pub certified : (s : Status) → s ≡ status.Fine → command_of words ≡ Some Check → Ran s → TellsAccepted (left a) (left b) (holds k) (holds l)
   certified s p w r =
-      let a = fine s p r in
-      let c : a.0 ≡ Check = let e = a.1 in cc (e, w) in
-      (a.2, a.3, accepted_is_sound a.2 a.4.0 (subst (λ (d : Command). Says d a.2 a.4.0) c a.4.1) a.4.2)
+      let h = fine s p r in
+      let c : h.0 ≡ Check = let e = h.1 in cc (e, w) in
+      let x : Answers Check h.2 h.4.0 = subst (λ (d : Command). Answers d h.2 h.4.0) c h.4.1 in
+      let e : status.Fine ≡ check_status x.0 = h.4.2 ∙ ap (λ (y : Answer). (answer_message y).status) x.1 in
+      let t : Adds (holds k) (holds l) (check_text x.0) = subst (λ (y : Answer). Adds (holds k) (holds l) (answer_message y).text) x.1 h.4.3 in
+      let i = accepted h.2 x.0 (holds k) (holds l) x.2 e t in
+      (h.2, h.3, i.0, i.1, i.2)
 
 -- ---- what becomes of an input
 
@@ -197,35 +180,38 @@ taken_length : (bytes given : List ℕ) (new : Option (List ℕ)) → Takes (Som
 taken_length bytes given None h = cc h
 taken_length bytes given (Some rest) h = let whole : bytes ≡ given ++ rest = cc h in omega (arith, ap length whole, length-append given rest)
 
-module _ (words : List (List ℕ)) (bytes : List ℕ) (left_new holds_old holds_new : Option (List ℕ)) (source_failed sink_failed : Type 0) where
+module _ {S K : Type 0} (left : S → Option (List ℕ)) (source_faults : S → ℕ) (holds : K → Option (List ℕ)) (sink_faults : K → ℕ) (words : List (List ℕ)) (a b : S) (k l : K) (bytes : List ℕ) (tells : left a ≡ Some bytes) where
   abbrev RanOn : Status → Type 0
-  RanOn = Runs words (Some bytes) left_new source_failed holds_old holds_new sink_failed
+  RanOn = Runs left source_faults holds sink_faults words a b k l
 
-  too_short : (b : List ℕ) → IsRead (Some bytes) left_new b → INPUT_LIMIT < length bytes → ⊥
-  too_short b r h = let e = ap length (read_whole bytes b left_new r.0 r.1) in absurd (omega (arith, e, r.2, h))
+  whole : (given : List ℕ) → IsRead (left a) (left b) given → bytes ≡ given
+  whole given r = read_whole bytes given (left b) (subst (λ (o : Option (List ℕ)). Takes o (left b) given) tells r.0) r.1
 
-  too_many : TakesExactly (Some bytes) left_new (INPUT_LIMIT + 1) → length bytes ≤ INPUT_LIMIT → ⊥
-  too_many x h = let l = taken_length bytes x.0 left_new x.2 in absurd (omega (arith, l, x.1, h))
+  too_many : TakesExactly (left a) (left b) (most_input_bytes + 1) → length bytes ≤ most_input_bytes → ⊥
+  too_many x h = let m = taken_length bytes x.0 (left b) (subst (λ (o : Option (List ℕ)). Takes o (left b) x.0) tells x.2) in absurd (omega (arith, m, x.1, h))
 
-  said : (c d : Command) (b : List ℕ) (a : Answer) → command_of words ≡ Some c → command_of words ≡ Some d → IsRead (Some bytes) left_new b → Says d b a → Says c bytes a
-  said c d b a h i r s =
+  too_short : (given : List ℕ) → IsRead (left a) (left b) given → most_input_bytes < length bytes → ⊥
+  too_short given r h = let e = ap length (whole given r) in absurd (omega (arith, e, r.2, h))
+
+  answered_so : (c d : Command) (given : List ℕ) (x : Answer) → command_of words ≡ Some c → command_of words ≡ Some d → IsRead (left a) (left b) given → Answers d given x → Answers c bytes x
+  answered_so c d given x h i r s =
       let same : d ≡ c = cc (h, i) in
-      subst (λ (x : List ℕ). Says c x a) (sym (read_whole bytes b left_new r.0 r.1)) (subst (λ (x : Command). Says x b a) same s)
+      subst (λ (y : List ℕ). Answers c y x) (sym (whole given r)) (subst (λ (y : Command). Answers y given x) same s)
 
-  -- an input within the limit gets what the command says of it, unless the run is interrupted
-  pub answered : (s : Status) (c : Command) → command_of words ≡ Some c → length bytes ≤ INPUT_LIMIT → RanOn s → IsInterrupted s ⊎ TellsOf c bytes holds_old holds_new s
-  answered s c h l (told.Usage, o, inl (e, a)) = absurd (no_command words o.0 (c, h))
-  answered s c h l (told.NoMemory, o, inl (e, a)) = inl (inl e)
-  answered s c h l (told.SourceFault, o, inl (e, a)) = inl (inr (inl e))
-  answered s c h l (told.TooLong, o, inl (e, a)) = absurd (too_many o.1 l)
-  answered s c h l (told.Answered x, o, inl (e, a)) = inr (x, said c o.0 o.2 x h o.1 o.3 o.4, e, a)
-  answered s c h l (t, o, inr k) = inl (inr (inr k.0))
+  -- an input within the limit gets what the command answers to it, unless the run is interrupted
+  pub answered : (s : Status) (c : Command) → command_of words ≡ Some c → length bytes ≤ most_input_bytes → RanOn s → IsInterrupted s ⊎ TellsOf c bytes (holds k) (holds l) s
+  answered s c h m (told.Usage, o, inl t) = absurd (no_command words o.0 (c, h))
+  answered s c h m (told.NoMemory, o, inl t) = inl (inl t.0)
+  answered s c h m (told.SourceFault, o, inl t) = inl (inr (inl t.0))
+  answered s c h m (told.TooLong, o, inl t) = absurd (too_many o.1 m)
+  answered s c h m (told.Answered x, o, inl t) = inr (x, answered_so c o.0 o.2 x h o.1 o.3 o.4, t.0, t.1)
+  answered s c h m (x, o, inr t) = inl (inr (inr t.0))
 
   -- a longer one is refused, unless the run is interrupted
-  pub too_long : (s : Status) → HasReading words → INPUT_LIMIT < length bytes → RanOn s → IsInterrupted s ⊎ ((s ≡ status.Refused) × Adds holds_old holds_new (codes "refused,TooLong\n"))
-  too_long s h l (told.Usage, o, inl (e, a)) = absurd (no_command words o.0 h)
-  too_long s h l (told.NoMemory, o, inl (e, a)) = inl (inl e)
-  too_long s h l (told.SourceFault, o, inl (e, a)) = inl (inr (inl e))
-  too_long s h l (told.TooLong, o, inl (e, a)) = inr (e, a)
-  too_long s h l (told.Answered x, o, inl (e, a)) = absurd (too_short o.2 o.3 l)
-  too_long s h l (t, o, inr k) = inl (inr (inr k.0))
+  pub too_long : (s : Status) → HasReading words → most_input_bytes < length bytes → RanOn s → IsInterrupted s ⊎ ((s ≡ status.Refused) × Adds (holds k) (holds l) (codes "refused,TooLong\n"))
+  too_long s h m (told.Usage, o, inl t) = absurd (no_command words o.0 h)
+  too_long s h m (told.NoMemory, o, inl t) = inl (inl t.0)
+  too_long s h m (told.SourceFault, o, inl t) = inl (inr (inl t.0))
+  too_long s h m (told.TooLong, o, inl t) = inr (t.0, t.1)
+  too_long s h m (told.Answered x, o, inl t) = absurd (too_short o.2 o.3 m)
+  too_long s h m (x, o, inr t) = inl (inr (inr t.0))

@@ -4,6 +4,10 @@ pub mod Form
 pub mod Slots
 pub mod Wall
 pub mod Limits
-pub mod Texts
+pub mod Details
+pub mod Messages
+pub mod Check
+pub mod Solve
+pub mod UValue
 pub mod Answers
 pub mod Outcome

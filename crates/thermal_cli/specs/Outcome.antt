@@ -1,49 +1,54 @@
--- Which status and which text belong to the words of a run and to the bytes of its source.
-use Rattle.std.specs.Prelude.{◌≡◌, ◌≤◌, ◌+◌, ◌⊎◌, ℕ, List, Option, Some, None, length, take}
-use Rattle.tb_outside.specs.Outside.{Adds, IsAtEnd, Takes, TakesAtMost, TakesExactly}
+-- What a run tells: which text and which status belong to its words and to the bytes of its source.
+use Rattle.std.specs.Prelude.{◌≡◌, ◌≤◌, ◌+◌, ◌⊎◌, ℕ, List, Option, Some, None, length, codes}
+use Rattle.tb_outside.specs.Faults.{Rose, Stands}
+use Rattle.tb_outside.specs.Limits.{most_input_bytes}
+use Rattle.tb_outside.specs.Outside.{Adds, IsAtEnd, Takes, TakesAtMost, TakesExactly, WritesFront}
+use Rattle.thermal_cli.specs.declared.answer.Answer.{Answer}
+use Rattle.tb_sums.specs.declared.Interval.{Interval}
+use Rattle.thermal_cli.specs.declared.check.CheckAnswer.TheVariants.{Accepted}
 use Rattle.thermal_cli.specs.declared.status.Status.{Status}
 use Rattle.thermal_cli.specs.declared.status.Status.TheVariants as status
-use Rattle.thermal_cli.specs.declared.telling.Answer.{Answer}
-use Rattle.thermal_cli.specs.declared.telling.Told.{Told}
-use Rattle.thermal_cli.specs.declared.telling.Told.TheVariants as told
-use Rattle.thermal_cli.specs.declared.top.TheConstants.{INPUT_LIMIT}
+use Rattle.thermal_cli.specs.declared.told.Told.{Told}
+use Rattle.thermal_cli.specs.declared.told.Told.TheVariants.{Usage, NoMemory, SourceFault, TooLong, Answered}
 use Rattle.thermal_cli.specs.declared.words.Command.{Command}
-use Rattle.thermal_cli.specs.Answers.{Says}
-use Rattle.thermal_cli.specs.Texts.{answer_status, answer_text, status_of, text_of}
+use Rattle.thermal_cli.specs.Answers.{Answers, answer_message}
+use Rattle.thermal_cli.specs.Check.{CheckAnswers, check_text}
+use Rattle.thermal_cli.specs.Messages.{Message, Tells}
 use Rattle.thermal_cli.specs.Words.{command_of}
+
+-- ---- what is told
 
 -- the source was read to its end, and gave these bytes
 abbrev pub IsRead : (old new : Option (List ℕ)) → List ℕ → Type 0
-IsRead old new bytes = Takes old new bytes × IsAtEnd new × (length bytes ≤ INPUT_LIMIT)
+IsRead old new bytes = Takes old new bytes × IsAtEnd new × (length bytes ≤ most_input_bytes)
 
 -- the words name a command
 abbrev pub HasReading : List (List ℕ) → Type 0
 HasReading words = (c : Command) × (command_of words ≡ Some c)
 
--- What is told belongs to the words, and to what was left of the source before and after. Memory may run out at any
--- time. A source that failed is told only where it did.
-abbrev pub IsOutcome : (words : List (List ℕ)) (old new : Option (List ℕ)) (source_failed : Type 0) → Told → Type 0
-IsOutcome words old new source_failed told.Usage = (command_of words ≡ None) × (new ≡ old)
-IsOutcome words old new source_failed told.NoMemory = HasReading words × TakesAtMost old new (INPUT_LIMIT + 1)
-IsOutcome words old new source_failed told.SourceFault = HasReading words × TakesAtMost old new INPUT_LIMIT × source_failed
-IsOutcome words old new source_failed told.TooLong = HasReading words × TakesExactly old new (INPUT_LIMIT + 1)
-IsOutcome words old new source_failed (told.Answered a) =
-    (c : Command) × (command_of words ≡ Some c) × (bytes : List ℕ) × IsRead old new bytes × Says c bytes a
+-- What is told belongs to the words, and to the source before and after, which is told by the bytes that are left and
+-- by its count of faults. Memory may run out at any time; words without a reading leave the source alone; a fault of
+-- the source is told exactly where one was counted.
+abbrev pub IsOutcome : {S : Type 0} → (S → Option (List ℕ)) → (S → ℕ) → (words : List (List ℕ)) (old new : S) → Told → Type 0
+IsOutcome left faults words old new Usage = (command_of words ≡ None) × (new ≡ old)
+IsOutcome left faults words old new NoMemory = HasReading words × TakesAtMost (left old) (left new) (most_input_bytes + 1) × Stands (faults old) (faults new)
+IsOutcome left faults words old new SourceFault = HasReading words × TakesAtMost (left old) (left new) most_input_bytes × Rose (faults old) (faults new)
+IsOutcome left faults words old new TooLong = HasReading words × TakesExactly (left old) (left new) (most_input_bytes + 1) × Stands (faults old) (faults new)
+IsOutcome left faults words old new (Answered a) =
+    (c : Command) × (command_of words ≡ Some c) × (bytes : List ℕ) × IsRead (left old) (left new) bytes × Answers c bytes a × Stands (faults old) (faults new)
 
--- a front of this text was written
-abbrev pub WritesFront : (old new : Option (List ℕ)) → List ℕ → Type 0
-WritesFront old new text = (n : ℕ) × (n ≤ length text) × Adds old new (take n text)
-
--- The whole text was written, with the status of what is told. Or the sink failed, and a front of the text was written.
-abbrev pub Tells : Told → (old new : Option (List ℕ)) (sink_failed : Type 0) → Status → Type 0
-Tells t old new sink_failed s =
-    ((s ≡ status_of t) × Adds old new (text_of t))
-    ⊎ ((s ≡ status.SinkFault) × sink_failed × WritesFront old new (text_of t))
+-- its text and its status
+abbrev pub told_message : Told → Message
+told_message Usage = record { text = codes "refused,Usage\n"; status = status.Usage }
+told_message NoMemory = record { text = codes "refused,NoMemory\n"; status = status.NoMemory }
+told_message SourceFault = record { text = codes "refused,SourceFault\n"; status = status.SourceFault }
+told_message TooLong = record { text = codes "refused,TooLong\n"; status = status.Refused }
+told_message (Answered a) = answer_message a
 
 -- A run: what is told is an outcome of the words and the source, and it was told.
-abbrev pub Runs : (words : List (List ℕ)) (left_old left_new : Option (List ℕ)) (source_failed : Type 0) (holds_old holds_new : Option (List ℕ)) (sink_failed : Type 0) → Status → Type 0
-Runs words left_old left_new source_failed holds_old holds_new sink_failed s =
-    (t : Told) × IsOutcome words left_old left_new source_failed t × Tells t holds_old holds_new sink_failed s
+abbrev pub Runs : {S K : Type 0} → (S → Option (List ℕ)) → (S → ℕ) → (K → Option (List ℕ)) → (K → ℕ) → (words : List (List ℕ)) (source_old source_new : S) (sink_old sink_new : K) → Status → Type 0
+Runs left source_faults holds sink_faults words source_old source_new sink_old sink_new s =
+    (t : Told) × IsOutcome left source_faults words source_old source_new t × Tells holds sink_faults (told_message t) sink_old sink_new s
 
 -- ---- what a run promises, taken by itself
 
@@ -53,16 +58,21 @@ IsInterrupted s = (s ≡ status.NoMemory) ⊎ ((s ≡ status.SourceFault) ⊎ (s
 
 -- a front was written of the text that belongs to the words and the bytes, or of the line of a source's fault where the
 -- source failed, or of the line for want of memory
-abbrev pub WritesFrontOfOne : (words : List (List ℕ)) (left_old left_new : Option (List ℕ)) (source_failed : Type 0) (holds_old holds_new : Option (List ℕ)) → Type 0
-WritesFrontOfOne words left_old left_new source_failed holds_old holds_new =
-    (t : Told) × IsOutcome words left_old left_new source_failed t × WritesFront holds_old holds_new (text_of t)
+abbrev pub WritesFrontOfOne : {S : Type 0} → (S → Option (List ℕ)) → (S → ℕ) → (words : List (List ℕ)) (source_old source_new : S) (holds_old holds_new : Option (List ℕ)) → Type 0
+WritesFrontOfOne left faults words source_old source_new holds_old holds_new =
+    (t : Told) × IsOutcome left faults words source_old source_new t × WritesFront holds_old holds_new (told_message t).text
 
--- what a command says of these bytes was written whole
+-- what a command answers to these bytes was written whole
 abbrev pub TellsOf : Command → List ℕ → (holds_old holds_new : Option (List ℕ)) → Status → Type 0
 TellsOf c bytes holds_old holds_new s =
-    (a : Answer) × Says c bytes a × (s ≡ answer_status a) × Adds holds_old holds_new (answer_text a)
+    (a : Answer) × Answers c bytes a × (s ≡ (answer_message a).status) × Adds holds_old holds_new (answer_message a).text
 
--- the source was read to its end, and what the command says of its bytes was written whole
+-- the source was read to its end, and what the command answers to its bytes was written whole
 abbrev pub IsAnswered : (words : List (List ℕ)) (left_old left_new holds_old holds_new : Option (List ℕ)) → Status → Type 0
 IsAnswered words left_old left_new holds_old holds_new s =
     (c : Command) × (command_of words ≡ Some c) × (bytes : List ℕ) × IsRead left_old left_new bytes × TellsOf c bytes holds_old holds_new s
+
+-- the source was read to its end, `check` accepts its bytes, and the interval that it thereby certifies was written
+abbrev pub TellsAccepted : (left_old left_new holds_old holds_new : Option (List ℕ)) → Type 0
+TellsAccepted left_old left_new holds_old holds_new =
+    (bytes : List ℕ) × IsRead left_old left_new bytes × (i : Interval) × CheckAnswers bytes (Accepted i) × Adds holds_old holds_new (check_text (Accepted i))

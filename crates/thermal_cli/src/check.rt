@@ -1,24 +1,41 @@
-// Checking the bundle of a wall.
-ghost use Rattle.std.specs.Prelude.{◌≡◌, ◌↔◌, [], ◌∷◌, IfOk, IfSome, IsTrue, pos, ◌-ℤ◌};
+// `check`: the interval that a bundle certifies.
+ghost use Rattle.std.specs.Prelude.{◌≡◌, ◌↔◌, IfOk, IfSome, IsTrue, pos, ◌-ℤ◌};
+ghost use Rattle.tb_outside.specs.Buffers.{Gathers};
 ghost use Rattle.tb_records.specs.Records.{records_of};
+ghost use Rattle.thermal_cli.specs.Check.{AnswersToEnds, AnswersToWall, CheckAnswers, check_status, check_text};
 ghost use Rattle.thermal_cli.specs.Limits.{IsGridOf, IsInLimits};
-ghost use Rattle.thermal_cli.specs.Answers.{Compares, Judges, JudgesWall};
-ghost use Rattle.thermal_cli.specs.Wall.{boxes_of, detail_of, environments_of_walls, face_values_of, lower_end_of, materials_of_walls, span_of, upper_end_of, wall_spelt};
+ghost use Rattle.thermal_cli.specs.Wall.{wall_spelt};
 
-use crate::Answer;
+use crate::Status;
 use crate::form::spelt_wall;
 use crate::wall::Wall;
+use crate::wall_ends::{ends, grid};
+use itoa::Buffer;
 use std::alloc::Global;
-use tb_detail::{Content, Detail, Environment, Items, Material, Name, SpaceBox, Span};
-use tb_plain::{PlainGrid, lower_end, upper_end};
+use tb_numbers::fixed;
+use tb_outside::{OutputBuffer, Sink, Text};
+use tb_plain::PlainGrid;
 use tb_records::{NoMemory, first_records};
 use tb_sums::Interval;
+
+/// What `check` answers to a bundle.
+#[derive(Clone, Copy, Debug, PartialEq, Eq)]
+pub enum CheckAnswer {
+    /// The input isn't a bundle that can be checked yet.
+    NotFormat,
+    /// The flux isn't balanced in this cell, counted from 1, from which this much more flows than into it, in nW per
+    /// unit difference.
+    Unbalanced { cell: u32, sum: i128 },
+    /// The bundle claims other ends than those of its field and its flux.
+    IntervalDiffers { claimed: Interval, found: Interval },
+    /// The bundle has no fault, and certifies this interval.
+    Accepted(Interval),
+}
 
 /// One record more than a wall's bundle has.
 const MOST_RECORDS: usize = 25;
 
-/// The case in which the first environment alone is at 1.
-const INSIDE: u8 = 1;
+// ---- the answer
 
 // The wall whose bundle these bytes are, if they are one.
 fn wall_in(alloc: Global, bytes: &[u8]) -> Result<Option<Wall>, NoMemory>
@@ -27,128 +44,6 @@ fn wall_in(alloc: Global, bytes: &[u8]) -> Result<Option<Wall>, NoMemory>
 {
     let rows = first_records(alloc, bytes, MOST_RECORDS)?;
     Ok(spelt_wall(rows.as_slice()))
-}
-
-fn name(alloc: Global, text: &[u8]) -> Result<Name, NoMemory>
-    ensures { IfOk result (λ name. name ≡ text.now) }
-{
-    let bytes = Vec::from_slice(alloc, text)?;
-    Ok(Name { bytes })
-}
-
-fn span(wall: &Wall, from: u32, to: u32) -> Span
-    ensures { result ≡ span_of wall.now from to }
-{
-    Span {
-        x0: from,
-        x1: to,
-        y0: 0,
-        y1: wall.breadth,
-        z0: 0,
-        z1: wall.height,
-    }
-}
-
-fn boxes(alloc: Global, wall: &Wall) -> Result<Items<SpaceBox>, NoMemory>
-    ensures { IfOk result (λ boxes. boxes ≡ boxes_of wall.now) }
-{
-    let solid = SpaceBox {
-        content: Content::Solid { material: 0 },
-        span: span(wall, wall.x1, wall.x2),
-    };
-    let inside = SpaceBox {
-        content: Content::Air {
-            environment: 0,
-            rs: wall.rs_inside,
-        },
-        span: span(wall, wall.x0, wall.x1),
-    };
-    let outside = SpaceBox {
-        content: Content::Air {
-            environment: 1,
-            rs: wall.rs_outside,
-        },
-        span: span(wall, wall.x2, wall.x3),
-    };
-    let items = Vec::from_slice(alloc, &[solid, inside, outside])?;
-    Ok(Items { items })
-}
-
-fn environments(alloc: Global) -> Result<Items<Environment>, NoMemory>
-    ensures { IfOk result (λ environments. environments ≡ environments_of_walls) }
-{
-    let inside = name(alloc, b"inside")?;
-    let outside = name(alloc, b"outside")?;
-    let mut items = Vec::new(alloc);
-    items.push(Environment { name: inside })?;
-    items.push(Environment { name: outside })?;
-    Ok(Items { items })
-}
-
-fn materials(alloc: Global, lambda: u32) -> Result<Items<Material>, NoMemory>
-    ensures { IfOk result (λ materials. materials ≡ materials_of_walls lambda) }
-{
-    let name = name(alloc, b"wall")?;
-    let mut items = Vec::new(alloc);
-    items.push(Material { name, lambda })?;
-    Ok(Items { items })
-}
-
-fn detail(alloc: Global, wall: &Wall) -> Result<Detail, NoMemory>
-    ensures { IfOk result (λ detail. detail ≡ detail_of wall.now) }
-{
-    let environments = environments(alloc)?;
-    let materials = materials(alloc, wall.lambda)?;
-    let boxes = boxes(alloc, wall)?;
-    Ok(Detail {
-        dimension: 3,
-        environments,
-        materials,
-        boxes,
-        parts: Items {
-            items: Vec::new(alloc),
-        },
-        psis: Items {
-            items: Vec::new(alloc),
-        },
-        chis: Items {
-            items: Vec::new(alloc),
-        },
-    })
-}
-
-// The detail of a wall between the lines of its grid.
-fn grid(alloc: Global, wall: &Wall) -> Result<PlainGrid, NoMemory>
-    ensures { IfOk result (IsGridOf wall.now) }
-{
-    let detail = detail(alloc, wall)?;
-    let x = Vec::from_slice(alloc, &[wall.x0, wall.x1, wall.x2, wall.x3])?;
-    let y = Vec::from_slice(alloc, &[0, wall.breadth])?;
-    let z = Vec::from_slice(alloc, &[0, wall.height])?;
-    Ok(PlainGrid { detail, x, y, z })
-}
-
-fn face_values(wall: &Wall) -> [i64; 16]
-    ensures { result ≡ face_values_of wall.now }
-{
-    let mut values = [0; 16];
-    values[4] = wall.flow_in;
-    values[5] = wall.flow_out;
-    values
-}
-
-// The ends of a wall's field and its flux.
-fn ends(grid: &PlainGrid, wall: &Wall) -> Interval
-    requires limits { IsInLimits wall.now }
-    requires grid { IsGridOf wall.now grid.now }
-    ensures lo { result.lo ≡ lower_end_of wall.now }
-    ensures hi { result.hi ≡ upper_end_of wall.now }
-{
-    let hi = upper_end(grid, &wall.node_values, INSIDE);
-    match lower_end(grid, &face_values(wall), INSIDE) {
-        Ok(lo) => Interval { lo, hi },
-        Err(_) => unreachable!(),
-    }
 }
 
 // What flows out of a cell more than into it.
@@ -177,37 +72,123 @@ fn is_same(claimed: Interval, found: Interval) -> bool
     claimed == found
 }
 
-// What is said of the ends of a balanced wall.
-fn compare(claimed: Interval, found: Interval) -> Answer
-    ensures { Compares claimed found result }
+// The answer to the ends of a balanced wall.
+fn compare(claimed: Interval, found: Interval) -> CheckAnswer
+    ensures { AnswersToEnds claimed found result }
 {
     if is_same(claimed, found) {
-        Answer::Accepted(found)
+        CheckAnswer::Accepted(found)
     } else {
-        Answer::IntervalDiffers { claimed, found }
+        CheckAnswer::IntervalDiffers { claimed, found }
     }
 }
 
-// What is said of a wall's bundle.
-fn judge(wall: &Wall, grid: &PlainGrid) -> Answer
+// The answer to a wall's bundle.
+fn answer_to_wall(wall: &Wall, grid: &PlainGrid) -> CheckAnswer
     requires limits { IsInLimits wall.now }
     requires grid { IsGridOf wall.now grid.now }
-    ensures { JudgesWall wall.now result }
+    ensures { AnswersToWall wall.now result }
 {
     let sum = excess(wall.flow_in, wall.flow_out);
     if !is_zero(sum) {
-        return Answer::Unbalanced { cell: 1, sum };
+        return CheckAnswer::Unbalanced { cell: 1, sum };
     }
     compare(interval(wall.lo, wall.hi), ends(grid, wall))
 }
 
-/// What `check` says of the bytes of a bundle.
-pub fn check(alloc: Global, bytes: &[u8]) -> Result<Answer, NoMemory>
-    ensures { IfOk result (Judges bytes.now) }
+/// What `check` answers to the bytes of a bundle.
+pub fn check(alloc: Global, bytes: &[u8]) -> Result<CheckAnswer, NoMemory>
+    ensures { IfOk result (CheckAnswers bytes.now) }
 {
     let Some(wall) = wall_in(alloc, bytes)? else {
-        return Ok(Answer::NotFormat);
+        return Ok(CheckAnswer::NotFormat);
     };
     let grid = grid(alloc, &wall)?;
-    Ok(judge(&wall, &grid))
+    Ok(answer_to_wall(&wall, &grid))
+}
+
+// ---- its text and its status
+
+fn put_unbalanced<K: Sink>(buffer: &mut OutputBuffer, sink: &mut K, cell: u32, sum: i128)
+    ensures { Gathers K.holds K.faults sink.old sink.new buffer.old (check_text (CheckAnswer.Unbalanced cell sum)) buffer.new }
+{
+    let mut digits = Buffer::new();
+    let number = digits.format(cell).as_bytes();
+    let sum = fixed(sum, 0);
+    buffer.put_pieces(
+        sink,
+        &[
+            b"refused,Unbalanced,case 1 cell ",
+            number,
+            b" sum ",
+            sum.as_bytes(),
+            b"\n",
+        ],
+    );
+}
+
+fn put_differs<K: Sink>(buffer: &mut OutputBuffer, sink: &mut K, claimed: Interval, found: Interval)
+    ensures { Gathers K.holds K.faults sink.old sink.new buffer.old (check_text (CheckAnswer.IntervalDiffers claimed found)) buffer.new }
+{
+    let (claimed_lo, claimed_hi) = (fixed(claimed.lo, 0), fixed(claimed.hi, 0));
+    let (found_lo, found_hi) = (fixed(found.lo, 0), fixed(found.hi, 0));
+    buffer.put_pieces(
+        sink,
+        &[
+            b"refused,IntervalDiffers,case 1 claimed ",
+            claimed_lo.as_bytes(),
+            b" ",
+            claimed_hi.as_bytes(),
+            b" found ",
+            found_lo.as_bytes(),
+            b" ",
+            found_hi.as_bytes(),
+            b"\n",
+        ],
+    );
+}
+
+fn put_accepted<K: Sink>(buffer: &mut OutputBuffer, sink: &mut K, interval: Interval)
+    ensures { Gathers K.holds K.faults sink.old sink.new buffer.old (check_text (CheckAnswer.Accepted interval)) buffer.new }
+{
+    let (lo, hi) = (fixed(interval.lo, 0), fixed(interval.hi, 0));
+    buffer.put_pieces(
+        sink,
+        &[
+            b"accepted,inside,",
+            lo.as_bytes(),
+            b",",
+            hi.as_bytes(),
+            b"\nend\n",
+        ],
+    );
+}
+
+impl Text for CheckAnswer {
+    ghost text = { check_text };
+
+    fn put<K: Sink>(&self, buffer: &mut OutputBuffer, sink: &mut K) {
+        match *self {
+            CheckAnswer::NotFormat => buffer.put(sink, b"refused,NotFormat,record 1\n"),
+            CheckAnswer::Unbalanced { cell, sum } => put_unbalanced(buffer, sink, cell, sum),
+            CheckAnswer::IntervalDiffers { claimed, found } => {
+                put_differs(buffer, sink, claimed, found)
+            }
+            CheckAnswer::Accepted(interval) => put_accepted(buffer, sink, interval),
+        }
+    }
+}
+
+impl CheckAnswer {
+    /// The status of a run that tells this answer.
+    pub fn status(&self) -> Status
+        ensures { result ≡ check_status self.now }
+    {
+        match self {
+            CheckAnswer::Accepted(_) => Status::Fine,
+            CheckAnswer::NotFormat
+            | CheckAnswer::Unbalanced { .. }
+            | CheckAnswer::IntervalDiffers { .. } => Status::CertificateRefused,
+        }
+    }
 }

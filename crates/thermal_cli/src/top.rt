@@ -1,46 +1,32 @@
 // The top call.
-ghost use Rattle.std.specs.Prelude.{◌≡◌, ◌⊎◌, ◌+◌, ◌<◌, ◌≤◌, ℕ, List, IfOk, IfSome, None, Some, codes, length, map, string_bytes};
-ghost use Rattle.tb_outside.specs.Outside.{Adds, Rose, TakesExactly};
-ghost use Rattle.thermal_cli.specs.Answers.{CertifiesWall, Says};
-ghost use Rattle.thermal_cli.specs.Outcome.{HasReading, IsAnswered, IsInterrupted, IsOutcome, IsRead, Runs, TellsOf, WritesFrontOfOne};
+ghost use Rattle.std.specs.Prelude.{◌≡◌, ◌⊎◌, ◌+◌, ◌<◌, ◌≤◌, IfSome, None, Some, codes, length, map, string_bytes};
+ghost use Rattle.tb_outside.specs.Faults.{Rose, Stands};
+ghost use Rattle.tb_outside.specs.Limits.{most_input_bytes};
+ghost use Rattle.tb_outside.specs.Outside.{Adds, TakesExactly};
+ghost use Rattle.thermal_cli.specs.Outcome.{HasReading, IsAnswered, IsInterrupted, IsOutcome, Runs, TellsAccepted, TellsOf, WritesFrontOfOne};
 ghost use Rattle.thermal_cli.specs.Words.{command_of};
 ghost use Rattle.thermal_cli.specs.declared.words.Command.{Command};
 
-use crate::check::check;
-use crate::solve::solve;
-use crate::telling::tell;
-use crate::uvalue::uvalue;
-use crate::words::{Command, command_of};
-use crate::{Answer, Status, Told};
+use crate::Status;
+use crate::answer::answer_to;
+use crate::told::{Told, tell};
+use crate::words::command_of;
 use std::alloc::Global;
 use tb_outside::{InFault, Sink, Source, read_all};
 use tb_records::NoMemory;
 
 /// How many bytes an input may have.
-pub const INPUT_LIMIT: usize = 268_435_456;
-
-// What a command says of its input.
-fn answer(alloc: Global, command: Command, bytes: &[u8]) -> Result<Answer, NoMemory>
-    requires { length bytes.now ≤ INPUT_LIMIT }
-    ensures { IfOk result (Says command bytes.now) }
-{
-    match command {
-        Command::Check => check(alloc, bytes),
-        Command::Solve => solve(alloc, bytes),
-        Command::UValue => uvalue(alloc, bytes),
-    }
-}
+const INPUT_LIMIT: usize = 268_435_456;
 
 // The work of a run, before anything is written.
 fn work<S: Source>(alloc: Global, words: &[String], source: &mut S) -> Told
-    ensures { IsOutcome (map string_bytes words.now) (S.left source.old) (S.left source.new)
-        (Rose (S.faults source.old) (S.faults source.new)) result }
+    ensures { IsOutcome S.left S.faults (map string_bytes words.now) source.old source.new result }
 {
     let Some(command) = command_of(words) else {
         return Told::Usage;
     };
     match read_all(alloc, source, INPUT_LIMIT) {
-        Ok(bytes) => match answer(alloc, command, bytes.as_slice()) {
+        Ok(bytes) => match answer_to(alloc, command, bytes.as_slice()) {
             Ok(answer) => Told::Answered(answer),
             Err(NoMemory) => Told::NoMemory,
         },
@@ -64,44 +50,50 @@ pub fn run<S: Source, K: Sink>(
     sink: &mut K,
 ) -> Status
     // The status and the bytes written belong to the words and to what the source gave. All that follows is part of this.
-    ensures outcome { Runs (map string_bytes words.now) (S.left source.old) (S.left source.new)
-        (Rose (S.faults source.old) (S.faults source.new)) (K.holds sink.old) (K.holds sink.new)
-        (Rose (K.faults sink.old) (K.faults sink.new)) result }
+    ensures outcome { Runs S.left S.faults K.holds K.faults (map string_bytes words.now) source.old source.new sink.old sink.new result }
 
     // Usage comes exactly where the words name no command, and leaves the source untouched.
     ensures usage { result ≡ Status.Usage → command_of (map string_bytes words.now) ≡ None }
     ensures no_reading { command_of (map string_bytes words.now) ≡ None
-        → ((result ≡ Status.Usage) ⊎ (result ≡ Status.SinkFault)) × (S.left source.new ≡ S.left source.old) }
+        → ((result ≡ Status.Usage) ⊎ (result ≡ Status.SinkFault)) × (source.new ≡ source.old) }
 
-    // A fault of the source or the sink has a cause, and memory may run out before anything is written.
+    // SourceFault comes only if a read failed, SinkFault only if a write failed.
     ensures source_fault { result ≡ Status.SourceFault → Rose (S.faults source.old) (S.faults source.new)
         × Adds (K.holds sink.old) (K.holds sink.new) (codes "refused,SourceFault\n") }
     ensures sink_fault { result ≡ Status.SinkFault → Rose (K.faults sink.old) (K.faults sink.new)
-        × WritesFrontOfOne (map string_bytes words.now) (S.left source.old) (S.left source.new)
-        (Rose (S.faults source.old) (S.faults source.new)) (K.holds sink.old) (K.holds sink.new) }
+        × WritesFrontOfOne S.left S.faults (map string_bytes words.now) source.old source.new (K.holds sink.old) (K.holds sink.new) }
+
+    // A fault isn't passed over: where the count of faults doesn't stand, it is told.
+    ensures source_faults_told { (Stands (S.faults source.old) (S.faults source.new))
+        ⊎ ((result ≡ Status.SourceFault) ⊎ (result ≡ Status.SinkFault)) }
+    ensures sink_faults_told { (Stands (K.faults sink.old) (K.faults sink.new)) ⊎ (result ≡ Status.SinkFault) }
+
+    // Memory may run out before anything is written.
     ensures no_memory { result ≡ Status.NoMemory → Adds (K.holds sink.old) (K.holds sink.new) (codes "refused,NoMemory\n") }
 
     // TooLong comes exactly where the source holds more bytes than the limit, and takes one byte more.
-    ensures refused { result ≡ Status.Refused → (TakesExactly (S.left source.old) (S.left source.new) (INPUT_LIMIT + 1)
+    ensures refused { result ≡ Status.Refused → (TakesExactly (S.left source.old) (S.left source.new) (most_input_bytes + 1)
         × Adds (K.holds sink.old) (K.holds sink.new) (codes "refused,TooLong\n"))
         ⊎ IsAnswered (map string_bytes words.now) (S.left source.old) (S.left source.new)
         (K.holds sink.old) (K.holds sink.new) Status.Refused }
     ensures too_long { IfSome (S.left source.old) (λ bytes. HasReading (map string_bytes words.now)
-        → INPUT_LIMIT < length bytes → IsInterrupted result
+        → most_input_bytes < length bytes → IsInterrupted result
         ⊎ ((result ≡ Status.Refused) × Adds (K.holds sink.old) (K.holds sink.new) (codes "refused,TooLong\n"))) }
 
-    // Any other input is read to its end, and gets exactly what the command says of its bytes.
+    // Any other input is read to its end, and gets exactly what the command answers to its bytes.
     ensures answered { IfSome (S.left source.old) (λ bytes. (c : Command) → command_of (map string_bytes words.now) ≡ Some c
-        → length bytes ≤ INPUT_LIMIT → IsInterrupted result ⊎ TellsOf c bytes (K.holds sink.old) (K.holds sink.new) result) }
+        → length bytes ≤ most_input_bytes → IsInterrupted result ⊎ TellsOf c bytes (K.holds sink.old) (K.holds sink.new) result) }
     ensures fine { result ≡ Status.Fine → IsAnswered (map string_bytes words.now) (S.left source.old) (S.left source.new)
         (K.holds sink.old) (K.holds sink.new) Status.Fine }
+
+    // A bundle that `check` accepts is a wall's, and the interval that is written is sound on its grid.
     ensures certified { result ≡ Status.Fine → command_of (map string_bytes words.now) ≡ Some Command.Check
-        → (bytes : List ℕ) × IsRead (S.left source.old) (S.left source.new) bytes × CertifiesWall bytes }
+        → TellsAccepted (S.left source.old) (S.left source.new) (K.holds sink.old) (K.holds sink.new) }
     ensures certificate_refused { result ≡ Status.CertificateRefused
         → (command_of (map string_bytes words.now) ≡ Some Command.Check)
         × IsAnswered (map string_bytes words.now) (S.left source.old) (S.left source.new)
         (K.holds sink.old) (K.holds sink.new) Status.CertificateRefused }
 {
     let told = work(alloc, words, source);
-    tell(sink, told)
+    tell(sink, &told)
 }

@@ -1,0 +1,40 @@
+-- With which status the answers of each command end a run.
+use Rattle.std.proofs.Common.{◌≡◌, ◌⊎◌, List, ℕ, inl, inr, refl, sym, subst}
+use Rattle.thermal_cli.specs.declared.answer.Answer.{Answer}
+use Rattle.thermal_cli.specs.declared.check.CheckAnswer.{CheckAnswer}
+use Rattle.thermal_cli.specs.declared.check.CheckAnswer.TheVariants as check
+use Rattle.thermal_cli.specs.declared.solve.SolveAnswer.{SolveAnswer}
+use Rattle.thermal_cli.specs.declared.uvalue.UValueAnswer.{UValueAnswer}
+use Rattle.thermal_cli.specs.declared.uvalue.UValueAnswer.TheVariants as uvalue
+use Rattle.thermal_cli.specs.declared.status.Status.{Status}
+use Rattle.thermal_cli.specs.declared.status.Status.TheVariants as status
+use Rattle.thermal_cli.specs.declared.words.Command.{Command}
+use Rattle.thermal_cli.specs.declared.words.Command.TheVariants.{Check, Solve, UValue}
+use Rattle.thermal_cli.specs.Answers.{Answers, answer_message}
+use Rattle.thermal_cli.specs.Check.{check_status}
+use Rattle.thermal_cli.specs.Solve.{solve_status}
+use Rattle.thermal_cli.specs.UValue.{uvalue_status}
+
+-- none tells a fault of the run itself, and only `check` refuses a certificate
+abbrev pub IsEndingOf : Command → Status → Type 0
+IsEndingOf c s = (s ≡ status.Fine) ⊎ ((s ≡ status.Refused) ⊎ ((s ≡ status.WidthNotReached) ⊎ ((s ≡ status.CertificateRefused) × (c ≡ Check))))
+
+check_ends : (a : CheckAnswer) → IsEndingOf Check (check_status a)
+check_ends check.NotFormat = inr (inr (inr (refl, refl)))
+check_ends (check.Unbalanced cell sum) = inr (inr (inr (refl, refl)))
+check_ends (check.IntervalDiffers claimed found) = inr (inr (inr (refl, refl)))
+check_ends (check.Accepted interval) = inl refl
+
+solve_ends : (a : SolveAnswer) → IsEndingOf Solve (solve_status a)
+solve_ends a = inr (inl refl)
+
+uvalue_ends : (a : UValueAnswer) → IsEndingOf UValue (uvalue_status a)
+uvalue_ends (uvalue.FaultOfDetail f) = inr (inl refl)
+uvalue_ends uvalue.NotBuilt = inr (inl refl)
+uvalue_ends uvalue.NoParts = inl refl
+
+-- a line for each command
+pub answers_end : (c : Command) (bytes : List ℕ) (a : Answer) → Answers c bytes a → IsEndingOf c (answer_message a).status
+answers_end Check bytes a h = subst (λ (b : Answer). IsEndingOf Check (answer_message b).status) (sym h.1) (check_ends h.0)
+answers_end Solve bytes a h = subst (λ (b : Answer). IsEndingOf Solve (answer_message b).status) (sym h.1) (solve_ends h.0)
+answers_end UValue bytes a h = subst (λ (b : Answer). IsEndingOf UValue (answer_message b).status) (sym h.1) (uvalue_ends h.0)

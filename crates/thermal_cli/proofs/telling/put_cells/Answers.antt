@@ -1,8 +1,0 @@
-use Rattle.std.proofs.Common.{◌≡◌, ◌∙◌}
-use Rattle.std.specs.Prelude.{decimal}
-use Rattle.thermal_cli.proofs.telling.put_cells.Goals as goal
-
-pub returns-clause-writes : goal.returns-clause-writes
-returns-clause-writes g c =
-    let count : c.as_bytes-count.result.now ≡ decimal c.args.count = c.as_bytes-count.ensures.value ∙ c.format.ensures.text in
-    rw count at c.put_text.ensures.writes

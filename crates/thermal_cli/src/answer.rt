@@ -1,0 +1,46 @@
+// What the commands answer. A new command is a variant and a line in each of the two matches.
+ghost use Rattle.std.specs.Prelude.{◌≤◌, IfOk, length};
+ghost use Rattle.tb_outside.specs.Limits.{most_input_bytes};
+ghost use Rattle.thermal_cli.specs.Answers.{Answers, answer_message};
+ghost use Rattle.thermal_cli.specs.Messages.{Tells};
+
+use crate::Status;
+use crate::check::{CheckAnswer, check};
+use crate::message::tell_text;
+use crate::solve::{SolveAnswer, solve};
+use crate::uvalue::{UValueAnswer, uvalue};
+use crate::words::Command;
+use std::alloc::Global;
+use tb_outside::Sink;
+use tb_records::NoMemory;
+
+/// What a command answers to its input.
+#[derive(Debug, Drop)]
+pub enum Answer {
+    Check(CheckAnswer),
+    Solve(SolveAnswer),
+    UValue(UValueAnswer),
+}
+
+/// What a command answers to these bytes, of which there are at most 268,435,456.
+pub fn answer_to(alloc: Global, command: Command, bytes: &[u8]) -> Result<Answer, NoMemory>
+    requires { length bytes.now ≤ most_input_bytes }
+    ensures { IfOk result (Answers command bytes.now) }
+{
+    Ok(match command {
+        Command::Check => Answer::Check(check(alloc, bytes)?),
+        Command::Solve => Answer::Solve(solve(alloc, bytes)?),
+        Command::UValue => Answer::UValue(uvalue(alloc, bytes)?),
+    })
+}
+
+/// Writes the text of an answer, and ends with its status.
+pub fn tell_answer<K: Sink>(sink: &mut K, answer: &Answer) -> Status
+    ensures { Tells K.holds K.faults (answer_message answer.now) sink.old sink.new result }
+{
+    match answer {
+        Answer::Check(answer) => tell_text(sink, answer, answer.status()),
+        Answer::Solve(answer) => tell_text(sink, answer, answer.status()),
+        Answer::UValue(answer) => tell_text(sink, answer, answer.status()),
+    }
+}
