@@ -12,9 +12,9 @@ past_changed [] i change h = refl
 past_changed (x ∷ xs) zero change h = absurd (omega arith)
 past_changed (x ∷ xs) (suc i) change h = ap (λ l. x ∷ l) (past_changed xs i change (omega arith))
 
--- what a push into the item at a place leaves
-pub put_at : {X L E : Type 0} (r : Result Unit0 E) (xs old : List X) (i place : ℕ) (x : X) (build : List L → X) (new ls : List L) (change : X → X)
-    → xs ≡ old → i ≡ place → i < length xs → x ≡ get_or xs i x → build ls ≡ change x → OnOk r (new ≡ ls) → OnOk r (set xs i (build new) ≡ changed_at place change old)
-put_at {X} (Ok u) xs old i place x build new ls change e p h g b n =
-    set_changed xs i x (build new) change h g (ap build n ∙ b) ∙ ap (λ (k : ℕ). changed_at k change xs) p ∙ ap (λ (l : List X). changed_at place change l) e
-put_at (Err f) xs old i place x build new ls change e p h g b n = tt
+-- what a change of the item at a place leaves
+pub set_at : {X E : Type 0} (r : Result Unit0 E) (xs old : List X) (i place : ℕ) (x new : X) (change : X → X)
+    → xs ≡ old → i ≡ place → i < length xs → x ≡ get_or xs i x → OnOk r (new ≡ change x) → OnOk r (set xs i new ≡ changed_at place change old)
+set_at (Ok u) xs old i place x new change e p h g n =
+    set_changed xs i x new change h g n ∙ ap (λ (k : ℕ). changed_at k change xs) p ∙ ap (λ l. changed_at place change l) e
+set_at (Err f) xs old i place x new change e p h g n = tt

@@ -36,50 +36,58 @@ pub enum Stop {
     NoMemory,
 }
 
-// What belongs to an item of a list goes to its end. A place past the list changes nothing.
+// An item of a list, to which things belong.
+trait Owner<X> {
+    // The item with one more thing.
+    ghost with: { X → Self → Self };
 
-fn add_layer(parts: &mut Items<Part>, place: u8, layer: Layer) -> Result<(), NoMemory>
-    ensures { OnOk result (parts.new ≡ changed_at place (more_layer layer) parts.old) }
-{
-    let place = usize::from(place);
-    if place >= parts.items.len() {
-        return Ok(());
-    }
-    let part = &mut parts.items[place];
-    put(&mut part.layers, layer)
+    // Adds a thing to the item.
+    fn add(&mut self, thing: X) -> Result<(), NoMemory>
+        ensures { OnOk result (self.new ≡ with thing self.old) };
 }
 
-fn add_length(psis: &mut Items<PsiItem>, place: u8, term: PlanarTerm) -> Result<(), NoMemory>
-    ensures { OnOk result (psis.new ≡ changed_at place (more_length term) psis.old) }
-{
-    let place = usize::from(place);
-    if place >= psis.items.len() {
-        return Ok(());
+impl Owner<Layer> for Part {
+    ghost with = { more_layer };
+
+    fn add(&mut self, layer: Layer) -> Result<(), NoMemory> {
+        put(&mut self.layers, layer)
     }
-    let psi = &mut psis.items[place];
-    put(&mut psi.lengths, term)
 }
 
-fn add_area(chis: &mut Items<ChiItem>, place: u8, term: PlanarTerm) -> Result<(), NoMemory>
-    ensures { OnOk result (chis.new ≡ changed_at place (more_area term) chis.old) }
-{
-    let place = usize::from(place);
-    if place >= chis.items.len() {
-        return Ok(());
+impl Owner<PlanarTerm> for PsiItem {
+    ghost with = { more_length };
+
+    fn add(&mut self, term: PlanarTerm) -> Result<(), NoMemory> {
+        put(&mut self.lengths, term)
     }
-    let chi = &mut chis.items[place];
-    put(&mut chi.areas, term)
 }
 
-fn add_line(chis: &mut Items<ChiItem>, place: u8, term: LineTerm) -> Result<(), NoMemory>
-    ensures { OnOk result (chis.new ≡ changed_at place (more_line term) chis.old) }
+impl Owner<PlanarTerm> for ChiItem {
+    ghost with = { more_area };
+
+    fn add(&mut self, term: PlanarTerm) -> Result<(), NoMemory> {
+        put(&mut self.areas, term)
+    }
+}
+
+impl Owner<LineTerm> for ChiItem {
+    ghost with = { more_line };
+
+    fn add(&mut self, term: LineTerm) -> Result<(), NoMemory> {
+        put(&mut self.lines, term)
+    }
+}
+
+// Adds a thing to the item at a place. A place past the list changes nothing.
+fn add_to<T: Owner<X>, X: Drop>(items: &mut Items<T>, place: u8, thing: X) -> Result<(), NoMemory>
+    ensures { OnOk result (items.new ≡ changed_at place (T.with thing) items.old) }
 {
     let place = usize::from(place);
-    if place >= chis.items.len() {
+    if place >= items.items.len() {
         return Ok(());
     }
-    let chi = &mut chis.items[place];
-    put(&mut chi.lines, term)
+    let item = &mut items.items[place];
+    item.add(thing)
 }
 
 // Adds to a detail what a record says.
@@ -100,12 +108,12 @@ fn add_entry(
         RecordKind::Solid => put(&mut detail.boxes, solid_of(values)),
         RecordKind::Air => put(&mut detail.boxes, air_of(values)),
         RecordKind::Part => put(&mut detail.parts, part_of(alloc, row, values)?),
-        RecordKind::Layer => add_layer(&mut detail.parts, owner, layer_of(alloc, values)?),
+        RecordKind::Layer => add_to(&mut detail.parts, owner, layer_of(alloc, values)?),
         RecordKind::Psi => put(&mut detail.psis, psi_of(alloc, row, values)?),
-        RecordKind::Length => add_length(&mut detail.psis, owner, planar_term_of(values)),
+        RecordKind::Length => add_to(&mut detail.psis, owner, planar_term_of(values)),
         RecordKind::Chi => put(&mut detail.chis, chi_of(alloc, row, values)?),
-        RecordKind::Area => add_area(&mut detail.chis, owner, planar_term_of(values)),
-        RecordKind::Line => add_line(&mut detail.chis, owner, line_term_of(values)),
+        RecordKind::Area => add_to(&mut detail.chis, owner, planar_term_of(values)),
+        RecordKind::Line => add_to(&mut detail.chis, owner, line_term_of(values)),
     }
 }
 
