@@ -13,7 +13,7 @@ use Rattle.tb_model.specs.Refinement.{scene_of}
 use Rattle.tb_model.specs.Soundness.{IsSound}
 use Rattle.tb_model.specs.Whole.{IsWhole}
 use Rattle.tb_geometry.specs.Faults.{IsAccepted}
-use Rattle.tb_geometry.specs.Seen.{CarriesBody, mesh_on, refinement_of}
+use Rattle.tb_geometry.specs.Grids.{CarriesBody, mesh_on, refinement_of}
 use Rattle.tb_duality.proofs.BodiesInLimits.{boxes_positive}
 use Rattle.tb_duality.proofs.EndLaws.{upper_end_near, lower_end_near}
 use Rattle.tb_duality.proofs.AcrossRefinements.{sound, in_order}

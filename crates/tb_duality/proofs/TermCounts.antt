@@ -13,7 +13,7 @@ use Rattle.std.proofs.Math.Nat.{eq-or-lt_of_le}
 use Rattle.tb_math.specs.Sums.{sum_to}
 use Rattle.tb_places.specs.declared.AxisName.{AxisName}
 use Rattle.tb_places.specs.declared.AxisName.TheVariants.{X, Y, Z}
-use Rattle.tb_places.specs.Inverse.{Place}
+use Rattle.tb_places.specs.declared.Place.{Place}
 use Rattle.tb_places.specs.Places.{IsCell}
 use Rattle.tb_detail.specs.declared.Content.TheVariants.{Solid}
 use Rattle.tb_detail.specs.declared.Detail.{Detail}
@@ -24,20 +24,20 @@ use Rattle.tb_grid.specs.Grid.{Axes}
 use Rattle.tb_model.specs.Energy.{Terms, of_solid, line_sum, axis_sum, number_of_terms}
 use Rattle.tb_model.specs.Mesh.{Mesh}
 use Rattle.tb_model.specs.Refinement.{low, high}
-use Rattle.tb_model.specs.Values.{grid_lines}
+use Rattle.tb_places.specs.Places.{by_axis}
 use Rattle.tb_geometry.specs.Bodies.{IsProper}
 use Rattle.tb_geometry.specs.Cubes.{ReachesOver}
 use Rattle.tb_geometry.specs.Faults.{IsAccepted}
-use Rattle.tb_geometry.specs.Seen.{CarriesBody, mesh_on}
+use Rattle.tb_geometry.specs.Grids.{CarriesBody, mesh_on}
 use Rattle.tb_geometry.proofs.Finer.{carried_has_lines}
-use Rattle.tb_geometry.proofs.Intervals.{before_from, line_of_member}
+use Rattle.tb_grid.proofs.RisingLists.{before_from, line_of_member}
 use Rattle.tb_geometry.proofs.Middles.{HasBoxLines, HoldsLowCorner, found_box}
 use Rattle.tb_geometry.proofs.Steps.{boxes_in_limits}
 
 -- a solid cell of a mesh
 record HasSolid (m : Mesh) : Type 0 where
   cell : Place
-  within : IsCell m.cells cell.i cell.j cell.k
+  within : IsCell m.cells cell
   material : ℕ
   fills : m.occupant cell.i cell.j cell.k ≡ Some (Solid material)
 
@@ -64,7 +64,7 @@ solid_on d g limits accepted carries =
     from_box n b within at solid.material solid.fills
   where
     lines : AxisName → List ℕ
-    lines = grid_lines g.x g.y g.z
+    lines = by_axis g.x g.y g.z
 
     has : HasBoxLines d.boxes lines
     has = carried_has_lines d g carries

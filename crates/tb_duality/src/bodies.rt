@@ -3,7 +3,7 @@ ghost use Rattle.std.specs.Prelude.{◌<◌, ◌≤ℤ◌, ◌-ℤ◌, ℕ, ℤ,
 ghost use Rattle.tb_detail.specs.declared.Detail.{Detail};
 ghost use Rattle.tb_detail.specs.Limits.{InLimits};
 ghost use Rattle.tb_geometry.specs.Faults.{IsAccepted};
-ghost use Rattle.tb_geometry.specs.Seen.{CarriesBody, mesh_on};
+ghost use Rattle.tb_geometry.specs.Grids.{CarriesBody, mesh_on};
 ghost use Rattle.tb_grid.specs.Grid.{Axes};
 ghost use Rattle.tb_math.specs.Rational.{int, ◌+ℚ◌, ◌≤ℚ◌, ◌<ℚ◌};
 ghost use Rattle.tb_model.specs.Energy.{Case, Field, Flux, Terms, IsBalanced, energy, bound, field_terms, flux_terms, lower_end, number_of_terms, upper_end};

@@ -5,21 +5,20 @@ use Rattle.std.specs.List.Sorted.{IsStrictlyIncreasing}
 use Rattle.std.proofs.lemmas.List.Elements.{Contains-get_or}
 use Rattle.tb_places.specs.declared.AxisName.{AxisName}
 use Rattle.tb_places.specs.declared.AxisName.TheVariants.{X, Y, Z}
-use Rattle.tb_places.specs.Inverse.{Place}
+use Rattle.tb_places.specs.declared.Place.{Place}
 use Rattle.tb_detail.specs.declared.SpaceBox.{SpaceBox}
 use Rattle.tb_detail.specs.declared.Detail.{Detail}
 use Rattle.tb_grid.specs.Axis.{IsAxis}
-use Rattle.tb_grid.specs.Direction.{index_along}
+use Rattle.tb_places.specs.Along.{index_along}
 use Rattle.tb_grid.specs.Grid.{Axes, IsGrid, lines_of}
 use Rattle.tb_model.specs.Refinement.{high, low}
-use Rattle.tb_model.specs.Values.{grid_lines}
 use Rattle.tb_geometry.specs.Base.{IsBaseCell, base_axes, base_lines}
 use Rattle.tb_geometry.specs.Bodies.{HasHolders, HoldsCorner, holder, no_box}
 use Rattle.tb_geometry.specs.Cubes.{ReachesOver}
-use Rattle.tb_geometry.specs.Seen.{CarriesBody, CarriesLines, HasLines}
+use Rattle.tb_geometry.specs.Grids.{CarriesBody, CarriesLines, HasLines}
 use Rattle.tb_geometry.proofs.Coordinates.{high_line, low_line}
 use Rattle.tb_geometry.proofs.Hulls.{line_of_box}
-use Rattle.tb_geometry.proofs.Intervals.{before_from, line_of_member, never_falls}
+use Rattle.tb_grid.proofs.RisingLists.{before_from, line_of_member, never_falls}
 use Rattle.tb_geometry.proofs.Lines.{base_rises}
 use Rattle.tb_geometry.proofs.Tables.{base_lines_of}
 
@@ -40,18 +39,7 @@ last_is_greatest lines rising x there =
     let up : get_or lines k 0 ≤ get_or lines (length lines - 1) 0 = never_falls lines rising k (length lines - 1) (omega arith) (omega arith) in
     omega arith
 
--- ---- what holds of x, y and z holds of each axis
-pub on_each_axis : (P : AxisName → Type 0) → P X → P Y → P Z → (a : AxisName) → P a
-on_each_axis P x y z X = x
-on_each_axis P x y z Y = y
-on_each_axis P x y z Z = z
-
 -- ---- the lines of a grid at scale 1
-pub lines_same : (g : Axes) (a : AxisName) → lines_of g a ≡ grid_lines g.x g.y g.z a
-lines_same g X = refl
-lines_same g Y = refl
-lines_same g Z = refl
-
 once : (n : ℕ) → n ≡ 1 * n
 once n = omega arith
 
@@ -150,18 +138,15 @@ pub record Spans (a : AxisName) (boxes : List SpaceBox) (lines : List ℕ) : Typ
 
 pub spans_along : (d : Detail) (g : Axes) → CarriesBody g d → (a : AxisName) → Spans a d.boxes (lines_of g a)
 spans_along d g r a =
-    let same = lines_same g a in
     record {
-      lows = λ b there. subst (λ (n : ℕ). Contains (lines_of g a) n) (sym (once (low a b)))
-          (subst (λ (lines : List ℕ). Contains lines (1 * low a b)) (sym same) (r.has_lows a b there));
-      highs = λ b there. subst (λ (n : ℕ). Contains (lines_of g a) n) (sym (once (high a b)))
-          (subst (λ (lines : List ℕ). Contains lines (1 * high a b)) (sym same) (r.has_highs a b there));
+      lows = λ b there. subst (λ (n : ℕ). Contains (lines_of g a) n) (sym (once (low a b))) (r.has_lows a b there);
+      highs = λ b there. subst (λ (n : ℕ). Contains (lines_of g a) n) (sym (once (high a b))) (r.has_highs a b there);
       from = λ p there.
-          let (n, b, within, at, holds) = r.from_hull a p (subst (λ (lines : List ℕ). Contains lines p) same there) in
+          let (n, b, within, at, holds) = r.from_hull a p there in
           let below : 1 * low a b ≤ p = holds in
           (n, b, within, at, omega arith);
       to = λ p there.
-          let (n, b, within, at, holds) = r.to_hull a p (subst (λ (lines : List ℕ). Contains lines p) same there) in
+          let (n, b, within, at, holds) = r.to_hull a p there in
           let above : p ≤ 1 * high a b = holds in
           (n, b, within, at, omega arith);
     }
@@ -170,17 +155,15 @@ refines_from_spans : (d : Detail) (g : Axes) → IsGrid g → ((a : AxisName) �
 refines_from_spans d g grid spans =
     record {
       scaled = omega arith;
-      rising = λ a. subst (λ (lines : List ℕ). IsStrictlyIncreasing lines) (lines_same g a) (grid.axes a).rising;
-      has_lows = λ a b there. subst (λ (n : ℕ). Contains (grid_lines g.x g.y g.z a) n) (once (low a b))
-          (subst (λ (lines : List ℕ). Contains lines (low a b)) (lines_same g a) ((spans a).lows b there));
-      has_highs = λ a b there. subst (λ (n : ℕ). Contains (grid_lines g.x g.y g.z a) n) (once (high a b))
-          (subst (λ (lines : List ℕ). Contains lines (high a b)) (lines_same g a) ((spans a).highs b there));
+      rising = λ a. (grid.axes a).rising;
+      has_lows = λ a b there. subst (λ (n : ℕ). Contains (lines_of g a) n) (once (low a b)) ((spans a).lows b there);
+      has_highs = λ a b there. subst (λ (n : ℕ). Contains (lines_of g a) n) (once (high a b)) ((spans a).highs b there);
       from_hull = λ a p there.
-          let (n, b, within, at, holds) = (spans a).from p (subst (λ (lines : List ℕ). Contains lines p) (sym (lines_same g a)) there) in
+          let (n, b, within, at, holds) = (spans a).from p there in
           let below : low a b ≤ p = holds in
           (n, b, within, at, omega arith);
       to_hull = λ a p there.
-          let (n, b, within, at, holds) = (spans a).to p (subst (λ (lines : List ℕ). Contains lines p) (sym (lines_same g a)) there) in
+          let (n, b, within, at, holds) = (spans a).to p there in
           let above : p ≤ high a b = holds in
           (n, b, within, at, omega arith);
     }

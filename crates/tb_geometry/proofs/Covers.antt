@@ -4,7 +4,8 @@ use Rattle.std.specs.List.{Contains, EachIndex}
 use Rattle.std.proofs.lemmas.List.{get_or_default}
 use Rattle.tb_places.specs.declared.AxisName.{AxisName}
 use Rattle.tb_places.specs.declared.AxisName.TheVariants.{X, Y, Z}
-use Rattle.tb_places.specs.Inverse.{Place, cell_place}
+use Rattle.tb_places.specs.declared.Place.{Place}
+use Rattle.tb_places.specs.Inverse.{cell_place}
 use Rattle.tb_places.specs.Places.{cell_count}
 use Rattle.tb_places.proofs.Cells.{cell_number_below, cell_number_of_place, cell_place_within}
 use Rattle.tb_detail.specs.declared.SpaceBox.{SpaceBox}
@@ -15,14 +16,15 @@ use Rattle.tb_geometry.specs.Base.{base_axes, HasCube, IsBaseCell, IsCoveredCell
 use Rattle.tb_geometry.specs.Bodies.{HasHolders, HoldsCorner, IsFirstFree, IsTable, holder, no_box}
 use Rattle.tb_geometry.specs.Cubes.{HoldsCube, IsCovered, IsInHull, IsInHullOn, ReachesOver}
 use Rattle.tb_geometry.proofs.Coordinates.{high_line, low_line}
-use Rattle.tb_geometry.proofs.Intervals.{above_high_end, from_low_end, interval_below, line_of_member, low_end_in, never_falls}
+use Rattle.tb_grid.proofs.Intervals.{above_high_end, from_low_end, interval_below, low_end_in}
+use Rattle.tb_grid.proofs.RisingLists.{line_of_member, never_falls}
 use Rattle.tb_geometry.proofs.Lines.{base_rises}
 
 -- ---- a box holds all cubes of a base cell or none
 reach_low : (a : AxisName) (boxes : List SpaceBox) (b : SpaceBox) (x i : ℕ) → Contains boxes b → IsIntervalOf (base_lines a boxes) x i →
     ReachesOver a b x → ReachesOver a b (get_or (base_lines a boxes) i 0)
 reach_low a boxes b x i there interval reach =
-    let low_end : get_or (base_lines a boxes) i 0 ≤ x = interval.from in
+    let low_end : get_or (base_lines a boxes) i 0 ≤ x = interval.holds.from in
     let below : x < high a b = reach.below in
     record {
       from = from_low_end (base_lines a boxes) (base_rises a boxes) x i (low a b) interval (low_line a boxes b there) reach.from;
@@ -32,7 +34,7 @@ reach_low a boxes b x i there interval reach =
 reach_cube : (a : AxisName) (boxes : List SpaceBox) (b : SpaceBox) (x i : ℕ) → Contains boxes b → IsIntervalOf (base_lines a boxes) x i →
     ReachesOver a b (get_or (base_lines a boxes) i 0) → ReachesOver a b x
 reach_cube a boxes b x i there interval reach =
-    let low_end : get_or (base_lines a boxes) i 0 ≤ x = interval.from in
+    let low_end : get_or (base_lines a boxes) i 0 ≤ x = interval.holds.from in
     let from : low a b ≤ get_or (base_lines a boxes) i 0 = reach.from in
     record {
       from = omega arith;
@@ -120,7 +122,7 @@ pub covered_from_table : (boxes : List SpaceBox) (table : List ℕ) → IsTable 
 covered_from_table boxes table is full x y z hull =
     let (p, has) = hull_cell boxes x y z hull in
     let cell = base_cell_of_cube boxes p x y z has in
-    let number : base_number boxes p < cell_count (base_counts boxes) = cell_number_below (base_counts boxes) p.i p.j p.k cell in
+    let number : base_number boxes p < cell_count (base_counts boxes) = cell_number_below (base_counts boxes) p cell in
     let long : length table ≡ cell_count (base_counts boxes) = is.each_cell in
     held_cell boxes table is p cell (full (base_number boxes p) (omega arith)) x y z has
 
@@ -129,7 +131,7 @@ pub holders_from_table : (boxes : List SpaceBox) (table : List ℕ) → IsTable 
 holders_from_table boxes table is full =
     let within : (p : Place) → IsBaseCell boxes p → holder boxes table p < length boxes =
     λ p cell.
-    let number : base_number boxes p < cell_count (base_counts boxes) = cell_number_below (base_counts boxes) p.i p.j p.k cell in
+    let number : base_number boxes p < cell_count (base_counts boxes) = cell_number_below (base_counts boxes) p cell in
     let long : length table ≡ cell_count (base_counts boxes) = is.each_cell in
     ⊎_elim (λ below. below) (λ none. absurd (full (base_number boxes p) (omega arith) none)) (is.either p cell) in
     record {
@@ -144,18 +146,23 @@ pub uncovered_from_table : (g : Axes) (boxes : List SpaceBox) (table : List ℕ)
     y ≡ get_or g.y (cell_place (counts_of g) n).j 0 → z ≡ get_or g.z (cell_place (counts_of g) n).k 0 → IsFirstUncovered boxes x y z
 uncovered_from_table g boxes table n x y z base is found at_x at_y at_z =
     let p : Place = cell_place (base_counts boxes) n in
-    let within : n < length table = found.within in
+    let within : n < length table = found.in_set in
     let long : length table ≡ cell_count (base_counts boxes) = is.each_cell in
     let cell : IsBaseCell boxes p = cell_place_within (base_counts boxes) n (omega arith) in
     let number : base_number boxes p ≡ n = cell_number_of_place (base_counts boxes) n in
+    let lower : (q : Place) → IsBaseCell boxes q → base_number boxes q < length table =
+    λ q inside. subst (λ (m : ℕ). base_number boxes q < m) (sym long) (cell_number_below (base_counts boxes) q inside) in
     record {
       cell = p;
-      in_base = cell;
+      first = record {
+        in_set = cell;
+        is_bad = free_cell boxes table is p cell (ap (λ (m : ℕ). get_or table m 0) number ∙ found.is_bad);
+        before = λ q inside below. held_cell boxes table is q inside
+            (found.before (base_number boxes q) (lower q inside) (subst (λ (m : ℕ). base_number boxes q < m) number below));
+      };
       corner = record {
         on_x = subst (λ (axes : Axes). x ≡ get_or axes.x (cell_place (counts_of axes) n).i 0) base at_x;
         on_y = subst (λ (axes : Axes). y ≡ get_or axes.y (cell_place (counts_of axes) n).j 0) base at_y;
         on_z = subst (λ (axes : Axes). z ≡ get_or axes.z (cell_place (counts_of axes) n).k 0) base at_z;
       };
-      uncovered = free_cell boxes table is p cell (ap (λ (m : ℕ). get_or table m 0) number ∙ found.is_free);
-      first = λ q inside before. held_cell boxes table is q inside (found.first (base_number boxes q) (subst (λ (m : ℕ). base_number boxes q < m) number before));
     }

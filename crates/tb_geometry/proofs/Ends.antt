@@ -8,8 +8,8 @@ use Rattle.std.proofs.lemmas.Bool.{cases_lt, true≢false, false≢true}
 use Rattle.std.proofs.lemmas.List.{get_or_default}
 use Rattle.std.proofs.lemmas.List.Elements.{Contains-get_or}
 use Rattle.tb_grid.specs.Axis.{IsLineAt}
-use Rattle.tb_geometry.specs.Seen.{HasLines, IsFirstMissing}
-use Rattle.tb_geometry.proofs.Intervals.{before_from, line_of_member}
+use Rattle.tb_geometry.specs.Grids.{HasLines, IsFirstMissing}
+use Rattle.tb_grid.proofs.RisingLists.{before_from, line_of_member}
 
 -- ---- whether a line is there
 pub line_there : (lines : List ℕ) (x : ℕ) (found : Option ℕ) → MatchOption found (¬ Contains lines x) (IsLineAt lines x) → is_some found ≡ true →
@@ -42,9 +42,9 @@ pub first_lack : (base lines : List ℕ) (n : ℕ) → IsStrictlyIncreasing base
     ¬ Contains lines (get_or base n 0) → IsFirstMissing base lines (get_or base n 0)
 first_lack base lines n rising within has missing =
     record {
-      is_base = Contains-get_or base n 0 within;
-      missing = missing;
-      first = λ y there below.
+      in_set = Contains-get_or base n 0 within;
+      is_bad = missing;
+      before = λ y there below.
           let (k, at) = line_of_member base y there in
           let inside : k < length base = at.within in
           let stands : get_or base k 0 ≡ y = at.stands in

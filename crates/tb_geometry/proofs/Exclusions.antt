@@ -2,16 +2,17 @@
 use Rattle.std.proofs.Common.{◌≡◌, ℕ, zero, suc, ◌-◌, ◌<◌, ◌≤◌, ◌⊎◌, inl, inr, ⊎_elim, List, length, get_or, Result, Ok, Err, refl, sym, ◌∙◌, ap, arith}
 use Rattle.std.proofs.lemmas.Bool.{cases_order}
 use Rattle.tb_places.specs.declared.AxisName.TheVariants.{X, Y, Z}
-use Rattle.tb_places.specs.Inverse.{Place}
+use Rattle.tb_places.specs.declared.Place.{Place}
 use Rattle.tb_places.specs.Places.{cell_count}
 use Rattle.tb_places.proofs.Cells.{cell_number_apart}
+use Rattle.tb_places.proofs.Firsts.{one_first}
 use Rattle.tb_detail.specs.declared.Detail.{Detail}
 use Rattle.tb_detail.specs.declared.SpaceBox.{SpaceBox}
 use Rattle.tb_geometry.specs.declared.fault.BodyFault.{BodyFault}
 use Rattle.tb_geometry.specs.declared.fault.BodyFault.TheVariants.{TooFewEnvironments, NoSolid, TooManyCells, Overlap, Uncovered, Isolated}
 use Rattle.tb_geometry.specs.declared.fault.BodyRefusal.{BodyRefusal}
 use Rattle.tb_geometry.specs.declared.fault.BodyRefusal.TheVariants.{Fault, NoMemory}
-use Rattle.tb_geometry.specs.Base.{IsBaseCell, IsFirstUncovered, IsLowCorner, base_counts, base_lines, base_mesh, base_number}
+use Rattle.tb_geometry.specs.Base.{IsBaseCell, IsCoveredCell, IsFirstUncovered, IsLowCorner, IsUncoveredCell, base_counts, base_lines, base_mesh, base_number}
 use Rattle.tb_walk.specs.Isolated.{NoneIsolated}
 use Rattle.tb_geometry.specs.Bodies.{AreBoxes, no_box}
 use Rattle.tb_geometry.specs.Cubes.{AreApart, IsCovered, IsFirstOverlap}
@@ -70,10 +71,10 @@ no_overlap boxes i j first apart =
 no_uncovered : (boxes : List SpaceBox) (x y z : ℕ) → AreBoxes boxes → IsFirstUncovered boxes x y z → IsCovered boxes → ⊥
 no_uncovered boxes x y z are first covered =
     let p : Place = first.cell in
-    first.uncovered (get_or (base_lines X boxes) p.i 0) (get_or (base_lines Y boxes) p.j 0) (get_or (base_lines Z boxes) p.k 0)
-    (corner_cube boxes p first.in_base)
+    first.first.is_bad (get_or (base_lines X boxes) p.i 0) (get_or (base_lines Y boxes) p.j 0) (get_or (base_lines Z boxes) p.k 0)
+    (corner_cube boxes p first.first.in_set)
     (covered (get_or (base_lines X boxes) p.i 0) (get_or (base_lines Y boxes) p.j 0) (get_or (base_lines Z boxes) p.k 0)
-    (corner_in_hull boxes p are first.in_base))
+    (corner_in_hull boxes p are first.first.in_set))
 
 lacks : (d : Detail) (fault : BodyFault) → AreBoxes d.boxes → HasFault d fault → Holds d (lacking fault) → ⊥
 unfolding Holds lacking
@@ -86,7 +87,7 @@ lacks d (TooManyCells n) are has holds =
     omega arith
 lacks d (Overlap i j) are has holds = no_overlap d.boxes i j has.first holds
 lacks d (Uncovered x y z) are has holds = no_uncovered d.boxes x y z are has.first holds
-lacks d (Isolated x y z) are has holds = has.first.isolated.enclosed.no_way (holds has.first.cell has.first.isolated.enclosed.in_set)
+lacks d (Isolated x y z) are has holds = has.first.isolated.is_bad (holds has.first.cell has.first.isolated.in_set)
 
 pub accepted_has_none : (d : Detail) (fault : BodyFault) → AreBoxes d.boxes → IsAccepted d → HasFault d fault → ⊥
 unfolding Holds lacking
@@ -107,47 +108,29 @@ one_overlap boxes i j p q first other =
     (λ back. let up : j ≤ q = same.1 in let down : q ≤ j = back.1 in (same.0, omega arith)) there)
     here
 
--- of two first cells neither has the smaller number
-not_before : (boxes : List SpaceBox) (x y z u v w : ℕ) (first : IsFirstUncovered boxes x y z) (other : IsFirstUncovered boxes u v w) →
-    base_number boxes first.cell < base_number boxes other.cell → ⊥
-not_before boxes x y z u v w first other before =
-    let p : Place = first.cell in
-    let cube = corner_cube boxes p first.in_base in
-    let at_x = get_or (base_lines X boxes) p.i 0 in
-    let at_y = get_or (base_lines Y boxes) p.j 0 in
-    let at_z = get_or (base_lines Z boxes) p.k 0 in
-    first.uncovered at_x at_y at_z cube (other.first p first.in_base before at_x at_y at_z cube)
+-- a base cell isn't covered and uncovered
+not_both : (boxes : List SpaceBox) (p : Place) → IsBaseCell boxes p → IsCoveredCell boxes p → IsUncoveredCell boxes p → ⊥
+not_both boxes p cell covered uncovered =
+    let cube = corner_cube boxes p cell in uncovered _ _ _ cube (covered _ _ _ cube)
 
 same_corner : (boxes : List SpaceBox) (p q : Place) (x y z u v w : ℕ) → IsBaseCell boxes p → IsBaseCell boxes q →
     base_number boxes p ≡ base_number boxes q → IsLowCorner boxes p x y z → IsLowCorner boxes q u v w → (x ≡ u) × (y ≡ v) × (z ≡ w)
 same_corner boxes p q x y z u v w cell other number corner also =
-    let (i, j, k) = cell_number_apart (base_counts boxes) p.i p.j p.k q.i q.j q.k cell other number in (
-      corner.on_x ∙ ap (λ (n : ℕ). get_or (base_lines X boxes) n 0) i ∙ sym also.on_x,
-      corner.on_y ∙ ap (λ (n : ℕ). get_or (base_lines Y boxes) n 0) j ∙ sym also.on_y,
-      corner.on_z ∙ ap (λ (n : ℕ). get_or (base_lines Z boxes) n 0) k ∙ sym also.on_z,
+    let same = cell_number_apart (base_counts boxes) p q cell other number in (
+      corner.on_x ∙ ap (λ (r : Place). get_or (base_lines X boxes) r.i 0) same ∙ sym also.on_x,
+      corner.on_y ∙ ap (λ (r : Place). get_or (base_lines Y boxes) r.j 0) same ∙ sym also.on_y,
+      corner.on_z ∙ ap (λ (r : Place). get_or (base_lines Z boxes) r.k 0) same ∙ sym also.on_z,
     )
 
 one_uncovered : (boxes : List SpaceBox) (x y z u v w : ℕ) → IsFirstUncovered boxes x y z → IsFirstUncovered boxes u v w → (x ≡ u) × (y ≡ v) × (z ≡ w)
-one_uncovered boxes x y z u v w first other =
-    let p : Place = first.cell in
-    let q : Place = other.cell in
-    let number : base_number boxes p ≡ base_number boxes q =
-    ⊎_elim (λ same. same)
-    (λ apart. ⊎_elim (λ before. absurd (not_before boxes x y z u v w first other before))
-    (λ after. absurd (not_before boxes u v w x y z other first after)) apart)
-    (cases_order (base_number boxes p) (base_number boxes q)) in
-    same_corner boxes p q x y z u v w first.in_base other.in_base number first.corner other.corner
+one_uncovered boxes x y z u v w one other =
+    same_corner boxes one.cell other.cell x y z u v w one.first.in_set other.first.in_set
+    (one_first _ _ _ _ one.cell other.cell (not_both boxes) one.first other.first) one.corner other.corner
 
 one_isolated : (d : Detail) (x y z u v w : ℕ) → IsIsolatedAt d x y z → IsIsolatedAt d u v w → (x ≡ u) × (y ≡ v) × (z ≡ w)
-one_isolated d x y z u v w first other =
-    let p : Place = first.cell in
-    let q : Place = other.cell in
-    let number : base_number d.boxes p ≡ base_number d.boxes q =
-    ⊎_elim (λ same. same)
-    (λ apart. ⊎_elim (λ before. absurd (first.isolated.enclosed.no_way (other.isolated.first p first.isolated.enclosed.in_set before)))
-    (λ after. absurd (other.isolated.enclosed.no_way (first.isolated.first q other.isolated.enclosed.in_set after))) apart)
-    (cases_order (base_number d.boxes p) (base_number d.boxes q)) in
-    same_corner d.boxes p q x y z u v w first.isolated.enclosed.in_set.0 other.isolated.enclosed.in_set.0 number first.corner other.corner
+one_isolated d x y z u v w one other =
+    same_corner d.boxes one.cell other.cell x y z u v w one.isolated.in_set.0 other.isolated.in_set.0
+    (one_first _ _ _ _ one.cell other.cell (λ p here way none. none way) one.isolated other.isolated) one.corner other.corner
 
 same_place_of_fault : (d : Detail) (fault other : BodyFault) → lacking fault ≡ lacking other → HasFault d fault → HasFault d other → fault ≡ other
 unfolding lacking

@@ -1,31 +1,29 @@
 -- A cell of a grid that carries a body lies in one base cell, and is filled as that is.
 use Rattle.std.proofs.Common.{◌≡◌, ℕ, suc, ◌-◌, ◌*◌, ◌<◌, ◌≤◌, List, length, get_or, Option, Some, sym, ap, subst, ◌∙◌, arith}
 use Rattle.std.specs.List.{Contains, slice_get}
-use Rattle.std.specs.List.Sorted.{IsStrictlyIncreasing}
 use Rattle.std.specs.Option.{option_map}
 use Rattle.std.proofs.lemmas.List.{get_or-map, length-map}
 use Rattle.std.proofs.lemmas.List.Elements.{Contains-get_or}
 use Rattle.std.proofs.lemmas.Option.{slice_get-get_or}
 use Rattle.tb_places.specs.declared.AxisName.{AxisName}
 use Rattle.tb_places.specs.declared.AxisName.TheVariants.{X, Y, Z}
-use Rattle.tb_places.specs.Inverse.{Place}
+use Rattle.tb_places.specs.declared.Place.{Place}
 use Rattle.tb_places.specs.Places.{Counts, IsCell, cell_count, cell_number}
 use Rattle.tb_places.proofs.Cells.{cell_number_below}
 use Rattle.tb_detail.specs.declared.SpaceBox.{SpaceBox}
 use Rattle.tb_detail.specs.declared.Detail.{Detail}
 use Rattle.tb_grid.specs.Axis.{IsBetweenEnds, IsIntervalOf, interval_count}
-use Rattle.tb_grid.specs.Direction.{index_along}
+use Rattle.tb_places.specs.Along.{index_along}
 use Rattle.tb_grid.specs.Grid.{Axes, counts_of, lines_of}
 use Rattle.tb_model.specs.Refinement.{high, low}
-use Rattle.tb_model.specs.Values.{grid_lines}
 use Rattle.tb_geometry.specs.Base.{HasCube, IsBaseCell, base_axes, base_counts, base_lines, base_number}
 use Rattle.tb_geometry.specs.Bodies.{Keeps, filled_with, holder, no_box, occupant_of}
-use Rattle.tb_geometry.specs.Seen.{CarriesBody, low_side, occupant_at}
+use Rattle.tb_geometry.specs.Grids.{CarriesBody, low_side, occupant_at}
 use Rattle.tb_geometry.specs.declared.occupant.Occupant.{Occupant}
-use Rattle.tb_geometry.proofs.Carrying.{first_is_least, last_is_greatest, lines_same, spans_along}
+use Rattle.tb_geometry.proofs.Carrying.{first_is_least, last_is_greatest, spans_along}
 use Rattle.tb_geometry.proofs.Coordinates.{high_line, low_line}
 use Rattle.tb_geometry.proofs.Covers.{base_cell_of_cube, cube_from_corner}
-use Rattle.tb_geometry.proofs.Intervals.{rises}
+use Rattle.tb_grid.proofs.RisingLists.{rises}
 use Rattle.tb_geometry.proofs.Lines.{base_rises}
 use Rattle.tb_geometry.proofs.Middles.{HasBoxLines, found_box}
 use Rattle.tb_geometry.proofs.Tables.{base_lines_of}
@@ -34,12 +32,12 @@ use Rattle.tb_geometry.proofs.Tables.{base_lines_of}
 once : (n : ℕ) → 1 * n ≡ n
 once n = omega arith
 
-pub carried_has_lines : (d : Detail) (g : Axes) → CarriesBody g d → HasBoxLines d.boxes (grid_lines g.x g.y g.z)
+pub carried_has_lines : (d : Detail) (g : Axes) → CarriesBody g d → HasBoxLines d.boxes (lines_of g)
 carried_has_lines d g carries =
     record {
       rising = λ a. carries.rising a;
-      lows = λ a b there. subst (λ (n : ℕ). Contains (grid_lines g.x g.y g.z a) n) (once (low a b)) (carries.has_lows a b there);
-      highs = λ a b there. subst (λ (n : ℕ). Contains (grid_lines g.x g.y g.z a) n) (once (high a b)) (carries.has_highs a b there);
+      lows = λ a b there. subst (λ (n : ℕ). Contains (lines_of g a) n) (once (low a b)) (carries.has_lows a b there);
+      highs = λ a b there. subst (λ (n : ℕ). Contains (lines_of g a) n) (once (high a b)) (carries.has_highs a b there);
     }
 
 -- ---- the base cell of a cell
@@ -56,16 +54,15 @@ between_base_ends d g carries a i within =
     first_is_least (base_lines a d.boxes) (base_rises a d.boxes) (low a b) (low_line a d.boxes b (n, b_within, b_at)) in
     let greatest : high a c ≤ get_or (base_lines a d.boxes) (length (base_lines a d.boxes) - 1) 0 =
     last_is_greatest (base_lines a d.boxes) (base_rises a d.boxes) (high a c) (high_line a d.boxes c (m, c_within, c_at)) in
-    let rising : IsStrictlyIncreasing (lines_of g a) = subst (λ (lines : List ℕ). IsStrictlyIncreasing lines) (sym (lines_same g a)) (carries.rising a) in
-    let up : get_or (lines_of g a) i 0 < get_or (lines_of g a) (suc i) 0 = rises (lines_of g a) rising i (suc i) (omega arith) (omega arith) in
-    (omega arith, omega arith)
+    let up : get_or (lines_of g a) i 0 < get_or (lines_of g a) (suc i) 0 = rises (lines_of g a) (carries.rising a) i (suc i) (omega arith) (omega arith) in
+    record { from = omega arith; below = omega arith }
 
-pub cell_along : (g : Axes) (p : Place) → IsCell (counts_of g) p.i p.j p.k → (a : AxisName) → index_along a p < interval_count (lines_of g a)
+pub cell_along : (g : Axes) (p : Place) → IsCell (counts_of g) p → (a : AxisName) → index_along a p < interval_count (lines_of g a)
 cell_along g p cell X = cell.0
 cell_along g p cell Y = cell.1
 cell_along g p cell Z = cell.2
 
-pub cell_between : (d : Detail) (g base : Axes) → base ≡ base_axes d.boxes → CarriesBody g d → (p : Place) → IsCell (counts_of g) p.i p.j p.k →
+pub cell_between : (d : Detail) (g base : Axes) → base ≡ base_axes d.boxes → CarriesBody g d → (p : Place) → IsCell (counts_of g) p →
     (a : AxisName) → IsBetweenEnds (lines_of base a) (low_side g a p)
 cell_between d g base is carries p cell a =
     subst (λ (lines : List ℕ). IsBetweenEnds lines (low_side g a p)) (sym (base_lines_of base d.boxes is a))
@@ -94,18 +91,18 @@ pub record IsOccupant (d : Detail) (g : Axes) (p : Place) (table : List ℕ) (oc
   pub fills : slice_get occupants (get_or table number 0) ≡ occupant_at d g p
 
 occupant_found : (d : Detail) (g base : Axes) (table : List ℕ) (occupants : List Occupant) (environments : ℕ) → Keeps d base table occupants environments →
-    CarriesBody g d → (p : Place) → IsCell (counts_of g) p.i p.j p.k → (q : Place) →
+    CarriesBody g d → (p : Place) → IsCell (counts_of g) p → (q : Place) →
     HasCube d.boxes q (low_side g X p) (low_side g Y p) (low_side g Z p) → IsOccupant d g p table occupants (base_number d.boxes q)
 occupant_found d g base table occupants environments keeps carries p cell q has =
     let n : ℕ = holder d.boxes table q in
     let in_base = base_cell_of_cube d.boxes q (low_side g X p) (low_side g Y p) (low_side g Z p) has in
-    let number : base_number d.boxes q < cell_count (base_counts d.boxes) = cell_number_below (base_counts d.boxes) q.i q.j q.k in_base in
+    let number : base_number d.boxes q < cell_count (base_counts d.boxes) = cell_number_below (base_counts d.boxes) q in_base in
     let each_cell : length table ≡ cell_count (base_counts d.boxes) = keeps.holders.each_cell in
     let within : holder d.boxes table q < length d.boxes = keeps.holders.within q in_base in
     let there = Contains-get_or d.boxes n no_box within in
     let corner = cube_from_corner d.boxes (get_or d.boxes n no_box) q (low_side g X p) (low_side g Y p) (low_side g Z p) there has
     (keeps.holders.holds q no_box in_base) in
-    let found = found_box d.boxes (grid_lines g.x g.y g.z) (carried_has_lines d g carries) keeps.accepted.apart p cell n no_box within corner in
+    let found = found_box d.boxes (lines_of g) (carried_has_lines d g carries) keeps.accepted.apart p cell n no_box within corner in
     let long : length occupants ≡ length d.boxes = ap length keeps.filled ∙ length-map d.boxes (occupant_of d.materials) in
     let o : Occupant = occupant_of d.materials no_box in
     let read : get_or occupants n o ≡ occupant_of d.materials (get_or d.boxes n no_box) =
@@ -118,9 +115,9 @@ occupant_found d g base table occupants environments keeps carries p cell q has 
     }
 
 pub occupant_read : (d : Detail) (g base : Axes) (table : List ℕ) (occupants : List Occupant) (environments : ℕ) → Keeps d base table occupants environments →
-    CarriesBody g d → (p : Place) → IsCell (counts_of g) p.i p.j p.k → (q : Place) →
+    CarriesBody g d → (p : Place) → IsCell (counts_of g) p → (q : Place) →
     ((a : AxisName) → IsIntervalOf (lines_of base a) (low_side g a p) (index_along a q)) → (n : Counts) → n ≡ base_counts d.boxes →
-    (number : ℕ) → number ≡ cell_number n q.i q.j q.k → IsOccupant d g p table occupants number
+    (number : ℕ) → number ≡ cell_number n q → IsOccupant d g p table occupants number
 occupant_read d g base table occupants environments keeps carries p cell q lies n counts number is =
-    subst (λ (m : ℕ). IsOccupant d g p table occupants m) (sym (is ∙ ap (λ (m : Counts). cell_number m q.i q.j q.k) counts))
+    subst (λ (m : ℕ). IsOccupant d g p table occupants m) (sym (is ∙ ap (λ (m : Counts). cell_number m q) counts))
     (occupant_found d g base table occupants environments keeps carries p cell q (has_low_corner d.boxes g base p q keeps.lines lies))

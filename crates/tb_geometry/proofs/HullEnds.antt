@@ -49,12 +49,12 @@ to_highest a (b ∷ bs) x below = elim (cases_lt x (high a b)) [
 ]
 
 pub has_hull : (boxes : List SpaceBox) → (lo hi : AxisName → ℕ) × IsHull boxes lo hi
-has_hull [] = (λ a. 0, λ a. 0, λ a x. (λ inside. absurd (not_in_none (λ b. low a b ≤ x) inside.from), λ within. absurd (omega (arith, within.1))))
+has_hull [] = (λ a. 0, λ a. 0, λ a x. (λ inside. absurd (not_in_none (λ b. low a b ≤ x) inside.from), λ within. absurd (omega (arith, within.below))))
 has_hull (b ∷ bs) = (
   λ a. lowest a b bs,
   λ a. highest a (b ∷ bs),
   λ a x. (
-    λ inside. (from_lowest a b bs x inside.from, below_highest a (b ∷ bs) x inside.below),
-    λ within. record { from = to_lowest a b bs x within.0; below = to_highest a (b ∷ bs) x within.1 },
+    λ inside. record { from = from_lowest a b bs x inside.from; below = below_highest a (b ∷ bs) x inside.below },
+    λ within. record { from = to_lowest a b bs x within.from; below = to_highest a (b ∷ bs) x within.below },
   ),
 )

@@ -4,7 +4,7 @@ use Rattle.std.specs.List.{Any, Contains}
 use Rattle.std.proofs.lemmas.List.Elements.{Contains-append_cases, Contains-get_or}
 use Rattle.tb_places.specs.declared.AxisName.{AxisName}
 use Rattle.tb_places.specs.declared.AxisName.TheVariants.{X, Y, Z}
-use Rattle.tb_places.specs.Inverse.{Place}
+use Rattle.tb_places.specs.declared.Place.{Place}
 use Rattle.tb_places.proofs.Rows.{same_place}
 use Rattle.tb_grid.specs.Axis.{IsIntervalOf}
 use Rattle.tb_detail.specs.declared.Detail.{Detail}
@@ -15,7 +15,7 @@ use Rattle.tb_geometry.specs.Bodies.{AreBoxes}
 use Rattle.tb_geometry.specs.Cubes.{IsInHull, IsInHullOn}
 use Rattle.tb_geometry.proofs.Coordinates.{high_line, low_line}
 use Rattle.tb_geometry.proofs.Covers.{corner_cube}
-use Rattle.tb_geometry.proofs.Intervals.{one_interval}
+use Rattle.tb_grid.proofs.Intervals.{one_interval}
 use Rattle.tb_geometry.proofs.Lines.{base_rises, base_through}
 
 -- ---- a coordinate is that of some box
@@ -70,8 +70,8 @@ interval_in_hull : (a : AxisName) (boxes : List SpaceBox) (x i : ℕ) → AreBox
 interval_in_hull a boxes x i are interval =
     let lines = base_lines a boxes in
     let within : i + 1 < length lines = interval.within in
-    let low_end : get_or lines i 0 ≤ x = interval.from in
-    let high_end : x < get_or lines (i + 1) 0 = interval.below in
+    let low_end : get_or lines i 0 ≤ x = interval.holds.from in
+    let high_end : x < get_or lines (i + 1) 0 = interval.holds.below in
     let (k, b, b_within, b_is, from) = line_from a boxes (get_or lines i 0) are (Contains-get_or lines i 0 (omega arith)) in
     let (n, c, c_within, c_is, to) = line_to a boxes (get_or lines (i + 1) 0) are (Contains-get_or lines (i + 1) 0 (omega arith)) in
     record { from = (k, b, b_within, b_is, omega arith); below = (n, c, c_within, c_is, omega arith) }

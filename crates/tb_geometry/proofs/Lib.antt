@@ -7,7 +7,6 @@ pub mod Exclusions
 pub mod Finer
 pub mod HullEnds
 pub mod Hulls
-pub mod Intervals
 pub mod Lines
 pub mod Members
 pub mod Middles

@@ -1,30 +1,15 @@
 -- Base lines rise, and are exactly the coordinates of boxes.
-use Rattle.std.proofs.Common.{◌≡◌, ℕ, zero, suc, ◌+◌, ◌<◌, ◌⊎◌, inl, inr, ⊎_elim, List, [], ◌∷◌, get_or, refl, sym, subst, ◌∙◌, arith}
+use Rattle.std.proofs.Common.{◌≡◌, ℕ, zero, suc, ◌+◌, ◌<◌, ◌⊎◌, inl, inr, ⊎_elim, List, [], ◌∷◌, get_or, refl, sym, subst, arith}
 use Rattle.std.specs.List.{Contains}
 use Rattle.std.specs.List.Sorted.{IsStrictlyIncreasing}
 use Rattle.std.proofs.lemmas.Bool.{cases_order, lt-ltb, le-ltb}
-use Rattle.std.proofs.lemmas.List.{get_or_default}
 use Rattle.std.proofs.lemmas.List.Elements.{Contains-append_left, Contains-append_right, Contains-append_cases}
-use Rattle.std.proofs.lemmas.List.Kept.{AllPairs-from_increasing}
 use Rattle.tb_places.specs.declared.AxisName.{AxisName}
 use Rattle.tb_detail.specs.declared.SpaceBox.{SpaceBox}
 use Rattle.tb_grid.specs.Axis.{AreLinesThrough}
+use Rattle.tb_grid.proofs.RisingLists.{first_member, later_is_above, later_member, member_cases, no_member, tail_rises}
 use Rattle.tb_model.specs.Refinement.{low, high}
 use Rattle.tb_geometry.specs.Base.{with_line, base_lines, coordinates}
-
--- ---- members of lists
-member_cases : (x : ℕ) (xs : List ℕ) (n : ℕ) → Contains (x ∷ xs) n → (x ≡ n) ⊎ Contains xs n
-member_cases x xs n (zero, below, is) = inl is
-member_cases x xs n (suc k, below, is) = inr (k, omega arith, is)
-
-later_member : (x : ℕ) (xs : List ℕ) (n : ℕ) → Contains xs n → Contains (x ∷ xs) n
-later_member x xs n (k, below, is) = (suc k, omega arith, is)
-
-first_member : (x : ℕ) (xs : List ℕ) (n : ℕ) → x ≡ n → Contains (x ∷ xs) n
-first_member x xs n is = (0, omega arith, is)
-
-no_member : (n : ℕ) → Contains [] n → ⊥
-no_member n (k, below, is) = omega arith
 
 -- ---- one line more
 rises_from : (x : ℕ) (lines : List ℕ) → ((n : ℕ) → Contains lines n → x < n) → IsStrictlyIncreasing lines →
@@ -34,16 +19,6 @@ rises_from x (y ∷ lines) above rising zero below = above y (first_member y lin
 rises_from x (y ∷ lines) above rising (suc k) below =
     let place : suc k + 1 ≡ suc (k + 1) = omega arith in
     subst (λ (m : ℕ). get_or (y ∷ lines) k 0 < get_or (x ∷ y ∷ lines) m 0) (sym place) (rising k (omega arith))
-
-tail_rises : (x : ℕ) (lines : List ℕ) → IsStrictlyIncreasing (x ∷ lines) → IsStrictlyIncreasing lines
-tail_rises x lines rising k below =
-    let place : suc k + 1 ≡ suc (k + 1) = omega arith in
-    subst (λ (m : ℕ). get_or lines k 0 < get_or (x ∷ lines) m 0) place (rising (suc k) (omega arith))
-
-later_is_above : (x : ℕ) (lines : List ℕ) (n : ℕ) → IsStrictlyIncreasing (x ∷ lines) → Contains lines n → x < n
-later_is_above x lines n rising (k, below, is) =
-    let value : get_or lines k 0 ≡ n = get_or_default lines k 0 n below ∙ is in
-    subst (λ (m : ℕ). x < m) value (AllPairs-from_increasing (x ∷ lines) rising 0 (suc k) 0 (omega arith) (omega arith))
 
 line_below : (x y : ℕ) (lines : List ℕ) → x < y → with_line x (y ∷ lines) ≡ x ∷ y ∷ lines
 unfolding with_line

@@ -10,13 +10,13 @@ use Rattle.std.proofs.lemmas.List.Sums.{position_or_len_is}
 use Rattle.std.proofs.lemmas.Option.{slice_get-get_or}
 use Rattle.tb_places.specs.declared.AxisName.{AxisName}
 use Rattle.tb_places.specs.declared.AxisName.TheVariants.{X, Y, Z}
-use Rattle.tb_places.specs.Inverse.{Place}
+use Rattle.tb_places.specs.declared.Place.{Place}
 use Rattle.tb_places.specs.Places.{Counts, IsCell}
 use Rattle.tb_detail.specs.declared.SpaceBox.{SpaceBox}
 use Rattle.tb_grid.specs.Axis.{interval_count}
 use Rattle.tb_model.specs.Refinement.{Refinement, high, holds_middle, low, reaches_middle}
 use Rattle.tb_geometry.specs.Cubes.{AreApart, HoldsCube, ReachesOver}
-use Rattle.tb_geometry.proofs.Intervals.{before_from, line_of_member, never_falls, rises}
+use Rattle.tb_grid.proofs.RisingLists.{before_from, line_of_member, never_falls, rises}
 
 -- ---- the middle between two lines
 -- a line at or below the middle between two neighbouring lines is at or below the lower of the two,
@@ -86,7 +86,7 @@ middle_from_reach boxes lines has a b there i within reach =
     )
 
 corner_from_middle : (boxes : List SpaceBox) (lines : AxisName → List ℕ) → HasBoxLines boxes lines → (p : Place) →
-    IsCell (counts_between lines) p.i p.j p.k → (b : SpaceBox) → Contains boxes b → holds_middle (at_scale_1 lines) p.i p.j p.k b ≡ true → HoldsLowCorner lines p b
+    IsCell (counts_between lines) p → (b : SpaceBox) → Contains boxes b → holds_middle (at_scale_1 lines) p.i p.j p.k b ≡ true → HoldsLowCorner lines p b
 corner_from_middle boxes lines has p cell b there middle =
     let x = reaches_middle (at_scale_1 lines) b X p.i in
     let y = reaches_middle (at_scale_1 lines) b Y p.j in
@@ -100,7 +100,7 @@ corner_from_middle boxes lines has p cell b there middle =
     }
 
 middle_from_corner : (boxes : List SpaceBox) (lines : AxisName → List ℕ) → HasBoxLines boxes lines → (p : Place) →
-    IsCell (counts_between lines) p.i p.j p.k → (b : SpaceBox) → Contains boxes b → HoldsLowCorner lines p b → holds_middle (at_scale_1 lines) p.i p.j p.k b ≡ true
+    IsCell (counts_between lines) p → (b : SpaceBox) → Contains boxes b → HoldsLowCorner lines p b → holds_middle (at_scale_1 lines) p.i p.j p.k b ≡ true
 middle_from_corner boxes lines has p cell b there holds =
     rw (
       middle_from_reach boxes lines has X b there p.i cell.0 holds.on_x,
@@ -110,7 +110,7 @@ middle_from_corner boxes lines has p cell b there holds =
 
 -- ---- the one box
 pub found_box : (boxes : List SpaceBox) (lines : AxisName → List ℕ) → HasBoxLines boxes lines → AreApart boxes → (p : Place) →
-    IsCell (counts_between lines) p.i p.j p.k → (n : ℕ) (e : SpaceBox) → n < length boxes → HoldsLowCorner lines p (get_or boxes n e) →
+    IsCell (counts_between lines) p → (n : ℕ) (e : SpaceBox) → n < length boxes → HoldsLowCorner lines p (get_or boxes n e) →
     find (holds_middle (at_scale_1 lines) p.i p.j p.k) boxes ≡ Some (get_or boxes n e)
 found_box boxes lines has apart p cell n e within holds =
     let first = position_or_len_is (holds_middle (at_scale_1 lines) p.i p.j p.k) boxes n e (omega arith)

@@ -10,7 +10,7 @@ use Rattle.tb_detail.specs.declared.SpaceBox.{SpaceBox}
 use Rattle.tb_model.specs.Refinement.{low, high}
 use Rattle.tb_geometry.specs.Bodies.{AreBoxes, IsProper}
 use Rattle.tb_geometry.specs.Cubes.{AreApart, IsFirstOverlap, Overlap, ReachesOver, ShareCube}
-use Rattle.tb_geometry.specs.Tests.{meet, meet_along}
+use Rattle.tb_geometry.specs.Boxes.{meet, meet_along}
 use Rattle.tb_geometry.proofs.Tested.{both_true}
 
 -- ---- the first place at which a test passes

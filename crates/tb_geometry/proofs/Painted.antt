@@ -2,11 +2,14 @@
 use Rattle.std.proofs.Common.{◌≡◌, ℕ, ◌+◌, ◌-◌, ◌<◌, ◌≤◌, ◌⊎◌, inl, inr, ⊎_elim, List, ◌∙◌, ap, arith}
 use Rattle.std.proofs.lemmas.Bool.{cases_lt, cases_order}
 use Rattle.tb_places.specs.declared.AxisName.TheVariants.{X, Y, Z}
-use Rattle.tb_places.specs.Inverse.{Place}
+use Rattle.tb_places.specs.declared.Place.{Place}
 use Rattle.tb_places.specs.Places.{Counts, IsCell, cell_number}
 use Rattle.tb_places.proofs.Cells.{cell_number_apart}
+use Rattle.tb_places.proofs.Rows.{same_indexes}
 use Rattle.tb_geometry.specs.declared.painting.CellRange.{CellRange}
-use Rattle.tb_geometry.specs.Painting.{FitsIn, HasCell, InRows, IsWritten, IsPainted, IsWithin}
+use Rattle.tb_geometry.specs.Painting.{FitsIn, HasCell, InRows, IsWritten, IsPainted}
+use Rattle.tb_places.specs.Places.{place_at}
+use Rattle.tb_places.specs.Ranges.{IsWithin}
 
 -- ---- what is in a set is known
 abbrev Known : Type 0 → Type 0
@@ -58,50 +61,50 @@ row_known r j k p =
 
 -- the number of a cell of the row
 row_number : (n : Counts) (r : CellRange) (j k : ℕ) (p : Place) → InRow r j k p →
-    cell_number n p.i p.j p.k ≡ cell_number n r.from.i j k + (p.i - r.from.i)
+    cell_number n p ≡ cell_number n (place_at r.from.i j k) + (p.i - r.from.i)
 row_number n r j k p row =
     let from : r.from.i ≤ p.i = row.on_x.from in
-    let at : cell_number n p.i p.j p.k ≡ cell_number n p.i j k =
-    ap (λ (m : ℕ). cell_number n p.i m p.k) row.row ∙ ap (λ (m : ℕ). cell_number n p.i j m) row.layer in
+    let at : cell_number n p ≡ cell_number n (place_at p.i j k) =
+    ap (λ (m : ℕ). cell_number n (place_at p.i m p.k)) row.row ∙ ap (λ (m : ℕ). cell_number n (place_at p.i j m)) row.layer in
     at ∙ (omega arith)
 
 -- a cell with a number of the row is in it
-row_cell : (n : Counts) (r : CellRange) (j k : ℕ) (p : Place) → FitsIn n r → j < n Y → k < n Z → IsCell n p.i p.j p.k →
-    cell_number n r.from.i j k ≤ cell_number n p.i p.j p.k → cell_number n p.i p.j p.k < cell_number n r.from.i j k + (r.to.i - r.from.i) →
+row_cell : (n : Counts) (r : CellRange) (j k : ℕ) (p : Place) → FitsIn n r → j < n Y → k < n Z → IsCell n p →
+    cell_number n (place_at r.from.i j k) ≤ cell_number n p → cell_number n p < cell_number n (place_at r.from.i j k) + (r.to.i - r.from.i) →
     InRow r j k p
 row_cell n r j k p fits on_y on_z cell from below =
     let end : r.to.i ≤ n X = fits.end_x in
     let some : r.from.i < r.to.i = fits.some_x in
-    let i : ℕ = r.from.i + (cell_number n p.i p.j p.k - cell_number n r.from.i j k) in
+    let i : ℕ = r.from.i + (cell_number n p - cell_number n (place_at r.from.i j k)) in
     let inside : i < r.to.i = omega arith in
-    let number : cell_number n p.i p.j p.k ≡ cell_number n i j k = omega arith in
-    let same = cell_number_apart n p.i p.j p.k i j k cell (omega arith, on_y, on_z) number in
+    let number : cell_number n p ≡ cell_number n (place_at i j k) = omega arith in
+    let same = same_indexes p (place_at i j k) (cell_number_apart n p (place_at i j k) cell (omega arith, on_y, on_z) number) in
     let at : p.i ≡ i = same.0 in
     record { on_x = record { from = omega arith; below = omega arith }; row = same.1; layer = same.2 }
 
 row_painted : (n : Counts) (r : CellRange) (j k value : ℕ) (old new : List ℕ) → FitsIn n r → j < n Y → k < n Z →
-    IsWritten (cell_number n r.from.i j k) (cell_number n r.from.i j k + (r.to.i - r.from.i)) value old new → IsPainted n (InRow r j k) value old new
+    IsWritten (cell_number n (place_at r.from.i j k)) (cell_number n (place_at r.from.i j k) + (r.to.i - r.from.i)) value old new → IsPainted n (InRow r j k) value old new
 row_painted n r j k value old new fits on_y on_z filled =
     record {
       same_length = filled.same_length;
       hit = λ p cell row.
-          let number : cell_number n p.i p.j p.k ≡ cell_number n r.from.i j k + (p.i - r.from.i) = row_number n r j k p row in
+          let number : cell_number n p ≡ cell_number n (place_at r.from.i j k) + (p.i - r.from.i) = row_number n r j k p row in
           let from : r.from.i ≤ p.i = row.on_x.from in
           let below : p.i < r.to.i = row.on_x.below in
-          filled.hit (cell_number n p.i p.j p.k) (omega arith) (omega arith);
+          filled.hit (cell_number n p) (omega arith) (omega arith);
       miss = λ p cell not_row.
-          ⊎_elim (filled.low (cell_number n p.i p.j p.k))
-          (λ (from : cell_number n r.from.i j k ≤ cell_number n p.i p.j p.k).
+          ⊎_elim (filled.low (cell_number n p))
+          (λ (from : cell_number n (place_at r.from.i j k) ≤ cell_number n p).
           ⊎_elim (λ below. absurd (not_row (row_cell n r j k p fits on_y on_z cell from below)))
-          (filled.high (cell_number n p.i p.j p.k))
-          (cases_lt (cell_number n p.i p.j p.k) (cell_number n r.from.i j k + (r.to.i - r.from.i))))
-          (cases_lt (cell_number n p.i p.j p.k) (cell_number n r.from.i j k));
+          (filled.high (cell_number n p))
+          (cases_lt (cell_number n p) (cell_number n (place_at r.from.i j k) + (r.to.i - r.from.i))))
+          (cases_lt (cell_number n p) (cell_number n (place_at r.from.i j k)));
     }
 
 -- ---- rows make a layer
 pub one_row_more : (n : Counts) (r : CellRange) (j k value : ℕ) (old mid new : List ℕ) → FitsIn n r → r.from.j ≤ j → j < r.to.j → k < n Z →
     IsPainted n (InRows r j k) value old mid →
-    IsWritten (cell_number n r.from.i j k) (cell_number n r.from.i j k + (r.to.i - r.from.i)) value mid new →
+    IsWritten (cell_number n (place_at r.from.i j k)) (cell_number n (place_at r.from.i j k) + (r.to.i - r.from.i)) value mid new →
     IsPainted n (InRows r (j + 1) k) value old new
 one_row_more n r j k value old mid new fits from below on_z before filled =
     let end : r.to.j ≤ n Y = fits.end_y in

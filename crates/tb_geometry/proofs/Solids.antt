@@ -4,7 +4,8 @@ use Rattle.std.specs.List.{All}
 use Rattle.std.proofs.lemmas.List.{get_or-map, get_or_default}
 use Rattle.tb_places.specs.declared.AxisName.{AxisName}
 use Rattle.tb_places.specs.declared.AxisName.TheVariants.{X, Y, Z}
-use Rattle.tb_places.specs.Inverse.{Place, cell_place}
+use Rattle.tb_places.specs.declared.Place.{Place}
+use Rattle.tb_places.specs.Inverse.{cell_place}
 use Rattle.tb_places.specs.Places.{cell_count}
 use Rattle.tb_places.proofs.Cells.{cell_number_below, cell_number_of_place, cell_place_within}
 use Rattle.tb_detail.specs.declared.Content.TheVariants.{Solid}
@@ -18,7 +19,7 @@ use Rattle.tb_geometry.specs.Base.{base_axes, IsBaseCell, base_counts, base_mesh
 use Rattle.tb_geometry.specs.Bodies.{HasHolders, holder, solid_flags, no_box}
 use Rattle.tb_geometry.specs.Cubes.{AreApart}
 use Rattle.tb_geometry.specs.Faults.{IsIsolatedAt}
-use Rattle.tb_geometry.specs.Tests.{is_solid}
+use Rattle.tb_geometry.specs.Boxes.{is_solid}
 use Rattle.tb_geometry.proofs.Occupants.{occupant_is}
 use Rattle.tb_geometry.proofs.Tested.{solid_content}
 use Rattle.tb_geometry.proofs.Tables.{base_lines_of}
@@ -50,7 +51,7 @@ marked_on_base d table apart holders =
       filled = λ p cell none. let fills = holder_fills d table apart holders p cell in absurd (cc);
       marked = λ p cell.
           let fills = holder_fills d table apart holders p cell in
-          let number : base_number d.boxes p < cell_count (base_counts d.boxes) = cell_number_below (base_counts d.boxes) p.i p.j p.k cell in
+          let number : base_number d.boxes p < cell_count (base_counts d.boxes) = cell_number_below (base_counts d.boxes) p cell in
           let long : length table ≡ cell_count (base_counts d.boxes) = holders.each_cell in
           let flag = flag_of d.boxes table (base_number d.boxes p) (omega arith) in (
             λ set. let (material, is) = solid_content (get_or d.boxes (holder d.boxes table p) no_box).content (sym flag ∙ set) in

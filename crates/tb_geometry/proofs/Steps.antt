@@ -19,8 +19,8 @@ use Rattle.tb_geometry.specs.Base.{base_mesh}
 use Rattle.tb_geometry.specs.Bodies.{AreBoxes, IsProper, Keeps, occupant_of}
 use Rattle.tb_geometry.specs.Cubes.{AreApart, IsCovered, IsFirstOverlap}
 use Rattle.tb_geometry.specs.Faults.{Answers, HasEnvironments, HasFault, HasFewCells, HasOverlap, HasSolid, IsAccepted, IsSolidBox}
-use Rattle.tb_geometry.specs.Steps.{Covers, HasGrid, Links}
-use Rattle.tb_geometry.specs.Tests.{is_solid}
+use Rattle.tb_geometry.specs.Outcomes.{Covers, HasGrid, Links}
+use Rattle.tb_geometry.specs.Boxes.{is_solid}
 use Rattle.tb_geometry.proofs.Tested.{solid_content}
 
 -- ---- limits

@@ -4,34 +4,26 @@ use Rattle.std.specs.List.{EachIndex}
 use Rattle.std.specs.List.Sorted.{IsStrictlyIncreasing}
 use Rattle.std.proofs.lemmas.Bool.{cases_lt}
 use Rattle.std.proofs.lemmas.List.{get_or_default}
-use mathlib.Core.Path.{fun_ext}
 use Rattle.tb_places.specs.declared.AxisName.{AxisName}
 use Rattle.tb_places.specs.declared.AxisName.TheVariants.{X, Y, Z}
-use Rattle.tb_places.specs.Inverse.{Place}
-use Rattle.tb_places.specs.Places.{Counts, cell_count}
+use Rattle.tb_places.specs.declared.Place.{Place}
+use Rattle.tb_places.specs.Places.{cell_count}
 use Rattle.tb_places.proofs.Cells.{cell_number_below}
 use Rattle.tb_detail.specs.declared.SpaceBox.{SpaceBox}
 use Rattle.tb_grid.specs.Axis.{IsLineAt, interval_count}
-use Rattle.tb_grid.specs.Direction.{index_along}
-use Rattle.tb_grid.specs.Grid.{Axes, cells_along, lines_of}
-use Rattle.tb_grid.specs.Views.{placed}
+use Rattle.tb_places.specs.Along.{index_along}
+use Rattle.tb_grid.specs.Grid.{Axes, lines_of}
+use Rattle.tb_places.specs.Places.{by_axis}
+use Rattle.tb_places.proofs.ByAxis.{same_by_axis}
 use Rattle.tb_model.specs.Refinement.{low, high}
 use Rattle.tb_geometry.specs.declared.painting.CellRange.{CellRange}
 use Rattle.tb_geometry.specs.Base.{base_axes, IsBaseCell, base_counts, base_lines, base_number}
 use Rattle.tb_geometry.specs.Bodies.{HoldsCorner, IsProper, IsRangeOf, IsTable, holder}
-use Rattle.tb_geometry.specs.Painting.{FitsIn, HasCell, IsPainted, IsWithin}
-use Rattle.tb_geometry.proofs.Intervals.{at_most_from, before_from, never_falls, rises}
+use Rattle.tb_geometry.specs.Painting.{FitsIn, HasCell, IsPainted}
+use Rattle.tb_places.specs.Ranges.{IsWithin}
+use Rattle.tb_grid.proofs.RisingLists.{at_most_from, before_from, never_falls, rises}
 use Rattle.tb_geometry.proofs.Lines.{base_rises}
 use Rattle.tb_geometry.proofs.Painted.{cell_known}
-
--- ---- counts of cells
-same_along : (n : Counts) (x y z : ℕ) → x ≡ n X → y ≡ n Y → z ≡ n Z → (a : AxisName) → cells_along x y z a ≡ n a
-same_along n x y z on_x on_y on_z X = on_x
-same_along n x y z on_x on_y on_z Y = on_y
-same_along n x y z on_x on_y on_z Z = on_z
-
-pub same_counts : (n : Counts) (x y z : ℕ) → x ≡ n X → y ≡ n Y → z ≡ n Z → cells_along x y z ≡ n
-same_counts n x y z on_x on_y on_z = fun_ext (same_along n x y z on_x on_y on_z)
 
 -- ---- the range of a box
 -- between the lines of a box are just the intervals over which it reaches
@@ -104,7 +96,7 @@ table_of_none boxes table long unpainted =
       held = λ p cell b e is below. absurd (omega arith);
       left_free = λ p cell is b e below. absurd (omega arith);
       either = λ p cell.
-          let number : base_number boxes p < cell_count (base_counts boxes) = cell_number_below (base_counts boxes) p.i p.j p.k cell in
+          let number : base_number boxes p < cell_count (base_counts boxes) = cell_number_below (base_counts boxes) p cell in
           inr (unpainted (base_number boxes p) (omega arith));
     }
 
@@ -153,18 +145,18 @@ base_lines_of g boxes is Y = ap (λ (axes : Axes). axes.y) is
 base_lines_of g boxes is Z = ap (λ (axes : Axes). axes.z) is
 
 pub base_counts_of : (g : Axes) (boxes : List SpaceBox) (x y z : ℕ) → g ≡ base_axes boxes → x ≡ interval_count g.x → y ≡ interval_count g.y →
-    z ≡ interval_count g.z → cells_along x y z ≡ base_counts boxes
+    z ≡ interval_count g.z → by_axis x y z ≡ base_counts boxes
 base_counts_of g boxes x y z is on_x on_y on_z =
-    same_counts (base_counts boxes) x y z
+    same_by_axis (base_counts boxes) x y z
     (on_x ∙ ap interval_count (base_lines_of g boxes is X))
     (on_y ∙ ap interval_count (base_lines_of g boxes is Y))
     (on_z ∙ ap interval_count (base_lines_of g boxes is Z))
 
 pub range_of : (g : Axes) (boxes : List SpaceBox) (b : SpaceBox) (r : CellRange) → g ≡ base_axes boxes →
-    ((a : AxisName) → IsLineAt (lines_of g a) (low a b) (index_along a (placed r.from))) →
-    ((a : AxisName) → IsLineAt (lines_of g a) (high a b) (index_along a (placed r.to))) → IsRangeOf boxes b r
+    ((a : AxisName) → IsLineAt (lines_of g a) (low a b) (index_along a r.from)) →
+    ((a : AxisName) → IsLineAt (lines_of g a) (high a b) (index_along a r.to)) → IsRangeOf boxes b r
 range_of g boxes b r is from to =
     record {
-      from = λ a. subst (λ (lines : List ℕ). IsLineAt lines (low a b) (index_along a (placed r.from))) (base_lines_of g boxes is a) (from a);
-      to = λ a. subst (λ (lines : List ℕ). IsLineAt lines (high a b) (index_along a (placed r.to))) (base_lines_of g boxes is a) (to a);
+      from = λ a. subst (λ (lines : List ℕ). IsLineAt lines (low a b) (index_along a r.from)) (base_lines_of g boxes is a) (from a);
+      to = λ a. subst (λ (lines : List ℕ). IsLineAt lines (high a b) (index_along a r.to)) (base_lines_of g boxes is a) (to a);
     }

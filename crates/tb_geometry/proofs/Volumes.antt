@@ -28,7 +28,7 @@ boxes_between boxes lo hi hull k e within a extent =
     let last : IsInHullOn a boxes (high a b - 1) = record { from = (k, b, within, at, omega arith); below = (k, b, within, at, omega arith) } in
     let from = (hull a (low a b)).0 first in
     let to = (hull a (high a b - 1)).0 last in
-    (from.0, omega (arith, to.1))
+    (from.from, omega (arith, to.below))
 
 -- the sum of f over the cubes from lo up to hi
 abbrev over : (AxisName → ℕ) → (AxisName → ℕ) → (ℕ → ℕ → ℕ → ℕ) → ℕ
@@ -75,9 +75,9 @@ volumes_of_cover boxes lo hi hull apart cover =
     one : (i j k : ℕ) → i < hi X - lo X → j < hi Y - lo Y → k < hi Z - lo Z → holder_count boxes (lo X + i) (lo Y + j) (lo Z + k) ≡ 1
     one i j k t u v =
         let cube : IsInHull boxes (lo X + i) (lo Y + j) (lo Z + k) = record {
-          on_x = (hull X (lo X + i)).1 (omega arith, omega arith);
-          on_y = (hull Y (lo Y + j)).1 (omega arith, omega arith);
-          on_z = (hull Z (lo Z + k)).1 (omega arith, omega arith);
+          on_x = (hull X (lo X + i)).1 (record { from = omega arith; below = omega arith });
+          on_y = (hull Y (lo Y + j)).1 (record { from = omega arith; below = omega arith });
+          on_z = (hull Z (lo Z + k)).1 (record { from = omega arith; below = omega arith });
         } in
         let some = has_holder boxes (lo X + i) (lo Y + j) (lo Z + k) (cover (lo X + i) (lo Y + j) (lo Z + k) cube) in
         let few = one_holder boxes (lo X + i) (lo Y + j) (lo Z + k) apart in
@@ -94,5 +94,5 @@ cover_of_volumes boxes lo hi hull apart full x y z cube =
     let on_z = (hull Z z).0 cube.on_z in
     let one = triple_full (hi X - lo X) (hi Y - lo Y) (hi Z - lo Z) (λ i j k. holder_count boxes (lo X + i) (lo Y + j) (lo Z + k))
     (λ i j k t u v. one_holder boxes (lo X + i) (lo Y + j) (lo Z + k) apart) all
-    (x - lo X) (y - lo Y) (z - lo Z) (omega (arith, on_x)) (omega (arith, on_y)) (omega (arith, on_z)) in
-    holder_of boxes x y z (rw (from_low (lo X) x on_x.0, from_low (lo Y) y on_y.0, from_low (lo Z) z on_z.0) at one)
+    (x - lo X) (y - lo Y) (z - lo Z) (omega (arith, on_x.from, on_x.below)) (omega (arith, on_y.from, on_y.below)) (omega (arith, on_z.from, on_z.below)) in
+    holder_of boxes x y z (rw (from_low (lo X) x on_x.from, from_low (lo Y) y on_y.from, from_low (lo Z) z on_z.from) at one)

@@ -6,27 +6,25 @@ use Rattle.std.specs.Option.{option_map}
 use Rattle.std.proofs.lemmas.List.Elements.{Contains-get_or}
 use Rattle.tb_places.specs.declared.AxisName.{AxisName}
 use Rattle.tb_places.specs.declared.AxisName.TheVariants.{X, Y, Z}
-use Rattle.tb_places.specs.Inverse.{Place}
+use Rattle.tb_places.specs.declared.Place.{Place}
 use Rattle.tb_places.specs.Places.{IsCell}
 use Rattle.tb_detail.specs.declared.Detail.{Detail}
 use Rattle.tb_detail.specs.declared.SpaceBox.{SpaceBox}
 use Rattle.tb_grid.specs.Axis.{IsIntervalOf, interval_count}
-use Rattle.tb_grid.specs.Direction.{index_along}
+use Rattle.tb_places.specs.Along.{index_along}
 use Rattle.tb_grid.specs.Grid.{Axes, counts_of, lines_of}
 use Rattle.tb_model.specs.Refinement.{high, low}
-use Rattle.tb_model.specs.Values.{grid_lines}
+use Rattle.tb_places.specs.Places.{by_axis}
 use Rattle.tb_geometry.specs.Base.{base_axes, base_lines}
 use Rattle.tb_geometry.specs.Bodies.{AreBoxes}
 use Rattle.tb_geometry.specs.Cubes.{AreApart, HoldsCube, IsCovered, IsInHullOn, ReachesOver}
-use Rattle.tb_geometry.specs.Seen.{CarriesBody, IsInBox, low_side}
-use Rattle.tb_geometry.proofs.Carrying.{lines_same, spans_along}
+use Rattle.tb_geometry.specs.Grids.{CarriesBody, IsInBox, low_side}
+use Rattle.tb_geometry.proofs.Carrying.{spans_along}
 use Rattle.tb_geometry.proofs.Finer.{carried_has_lines}
 use Rattle.tb_geometry.proofs.Hulls.{base_refines}
-use Rattle.tb_geometry.proofs.Intervals.{above_high_end, rises}
+use Rattle.tb_grid.proofs.Intervals.{above_high_end}
+use Rattle.tb_grid.proofs.RisingLists.{rises}
 use Rattle.tb_geometry.proofs.Middles.{found_box}
-
-carried_rises : (d : Detail) (g : Axes) → CarriesBody g d → (a : AxisName) → IsStrictlyIncreasing (lines_of g a)
-carried_rises d g carries a = subst (λ (lines : List ℕ). IsStrictlyIncreasing lines) (sym (lines_same g a)) (carries.rising a)
 
 -- ---- the low corner of a cell is in the hull
 corner_in_hull : (d : Detail) (g : Axes) → CarriesBody g d → (a : AxisName) (i : ℕ) → i < interval_count (lines_of g a) →
@@ -34,7 +32,7 @@ corner_in_hull : (d : Detail) (g : Axes) → CarriesBody g d → (a : AxisName) 
 corner_in_hull d g carries a i within =
     let spans = spans_along d g carries a in
     let up : get_or (lines_of g a) i 0 < get_or (lines_of g a) (suc i) 0 =
-    rises (lines_of g a) (carried_rises d g carries a) i (suc i) (omega arith) (omega arith) in
+    rises (lines_of g a) (carries.rising a) i (suc i) (omega arith) (omega arith) in
     let (n, b, inside, at, holds) = spans.to (get_or (lines_of g a) (suc i) 0) (Contains-get_or (lines_of g a) (suc i) 0 (omega arith)) in
     let reach : get_or (lines_of g a) (suc i) 0 ≤ high a b = holds in
     record {
@@ -53,20 +51,20 @@ reach_whole : (d : Detail) (g : Axes) → CarriesBody g d → (a : AxisName) (b 
     ReachesOver a b (get_or (lines_of g a) i 0) → ReachesOver a b x
 reach_whole d g carries a b there x i interval reach =
     let from : low a b ≤ get_or (lines_of g a) i 0 = reach.from in
-    let low_end : get_or (lines_of g a) i 0 ≤ x = interval.from in
+    let low_end : get_or (lines_of g a) i 0 ≤ x = interval.holds.from in
     record {
       from = omega arith;
-      below = above_high_end (lines_of g a) (carried_rises d g carries a) x i (high a b) interval ((spans_along d g carries a).highs b there) reach.below;
+      below = above_high_end (lines_of g a) (carries.rising a) x i (high a b) interval ((spans_along d g carries a).highs b there) reach.below;
     }
 
-pub cell_in_box : (d : Detail) (g : Axes) (p : Place) → AreApart d.boxes → IsCovered d.boxes → CarriesBody g d → IsCell (counts_of g) p.i p.j p.k → IsInBox d g p
+pub cell_in_box : (d : Detail) (g : Axes) (p : Place) → AreApart d.boxes → IsCovered d.boxes → CarriesBody g d → IsCell (counts_of g) p → IsInBox d g p
 cell_in_box d g p apart covered carries cell =
     let (n, b, within, at, holds) = covered (low_side g X p) (low_side g Y p) (low_side g Z p) (record {
       on_x = corner_in_hull d g carries X p.i cell.0;
       on_y = corner_in_hull d g carries Y p.j cell.1;
       on_z = corner_in_hull d g carries Z p.k cell.2;
     }) in
-    let found = found_box d.boxes (grid_lines g.x g.y g.z) (carried_has_lines d g carries) apart p cell n b within
+    let found = found_box d.boxes (lines_of g) (carried_has_lines d g carries) apart p cell n b within
     (subst (λ (box : SpaceBox). HoldsCube box (low_side g X p) (low_side g Y p) (low_side g Z p)) (sym at) holds) in
     record {
       box = b;
@@ -77,7 +75,7 @@ cell_in_box d g p apart covered carries cell =
 
 -- ---- the base grid
 base_same : (boxes : List SpaceBox) (a : AxisName) →
-    base_lines a boxes ≡ grid_lines (base_lines X boxes) (base_lines Y boxes) (base_lines Z boxes) a
+    base_lines a boxes ≡ by_axis (base_lines X boxes) (base_lines Y boxes) (base_lines Z boxes) a
 base_same boxes X = refl
 base_same boxes Y = refl
 base_same boxes Z = refl

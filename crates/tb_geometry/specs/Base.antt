@@ -1,10 +1,11 @@
 -- The base grid of a body: on each axis all box coordinates.
-use Rattle.std.specs.Prelude.{ℕ, nat_lt, if◌then◌else◌, List, [], ◌∷◌, ◌≡◌, ◌<◌, Some}
+use Rattle.std.specs.Prelude.{ℕ, nat_lt, if◌then◌else◌, List, [], ◌∷◌, ◌≡◌, Some}
 use Rattle.std.specs.List.{Contains, flat_map}
 use Rattle.tb_places.specs.declared.AxisName.{AxisName}
 use Rattle.tb_places.specs.declared.AxisName.TheVariants.{X, Y, Z}
-use Rattle.tb_places.specs.Inverse.{Place}
+use Rattle.tb_places.specs.declared.Place.{Place}
 use Rattle.tb_places.specs.Places.{Counts, IsCell, cell_number}
+use Rattle.tb_places.specs.Ranges.{IsFirst}
 use Rattle.tb_detail.specs.declared.SpaceBox.{SpaceBox}
 use Rattle.tb_detail.specs.declared.Detail.{Detail}
 use Rattle.tb_grid.specs.Axis.{IsIntervalOf, interval_count}
@@ -46,11 +47,11 @@ base_mesh d = mesh (scene_of d) (base_of d.boxes)
 
 -- the place of a base cell
 abbrev pub IsBaseCell : List SpaceBox → Place → Type 0
-IsBaseCell boxes p = IsCell (base_counts boxes) p.i p.j p.k
+IsBaseCell boxes p = IsCell (base_counts boxes) p
 
 -- the number of a base cell in the index order
 abbrev pub base_number : List SpaceBox → Place → ℕ
-base_number boxes p = cell_number (base_counts boxes) p.i p.j p.k
+base_number boxes p = cell_number (base_counts boxes) p
 
 -- a base cell has the cube at (x,y,z)
 pub record HasCube (boxes : List SpaceBox) (p : Place) (x y z : ℕ) : Type 0 where
@@ -82,7 +83,5 @@ pub record IsLowCorner (boxes : List SpaceBox) (p : Place) (x y z : ℕ) : Type 
 -- the first base cell, by its number, that is in no box has its low corner at (x,y,z)
 pub record IsFirstUncovered (boxes : List SpaceBox) (x y z : ℕ) : Type 0 where
   pub cell : Place
-  pub in_base : IsBaseCell boxes cell
+  pub first : IsFirst (base_number boxes) (IsBaseCell boxes) (IsCoveredCell boxes) (IsUncoveredCell boxes) cell
   pub corner : IsLowCorner boxes cell x y z
-  pub uncovered : IsUncoveredCell boxes cell
-  pub first : (p : Place) → IsBaseCell boxes p → base_number boxes p < base_number boxes cell → IsCoveredCell boxes p

@@ -3,8 +3,9 @@ use Rattle.std.specs.Prelude.{ℕ, Bool, ◌≡◌, ◌≢◌, ◌<◌, ◌≤�
 use Rattle.std.specs.List.{All}
 use Rattle.tb_places.specs.declared.AxisName.{AxisName}
 use Rattle.tb_places.specs.declared.AxisName.TheVariants.{X, Y, Z}
-use Rattle.tb_places.specs.Inverse.{Place}
+use Rattle.tb_places.specs.declared.Place.{Place}
 use Rattle.tb_places.specs.Places.{cell_count}
+use Rattle.tb_places.specs.Ranges.{IsFirst}
 use Rattle.tb_detail.specs.declared.Content.{Content}
 use Rattle.tb_detail.specs.declared.Content.TheVariants as content
 use Rattle.tb_detail.specs.declared.Material.{Material}
@@ -13,16 +14,15 @@ use Rattle.tb_detail.specs.declared.Detail.{Detail}
 use Rattle.tb_detail.specs.Limits.{InLimits}
 use Rattle.tb_detail.specs.declared.limits.TheConstants.{MOST_BOXES}
 use Rattle.tb_grid.specs.Axis.{IsLineAt}
-use Rattle.tb_grid.specs.Direction.{index_along}
+use Rattle.tb_places.specs.Along.{index_along}
 use Rattle.tb_grid.specs.Grid.{Axes}
-use Rattle.tb_grid.specs.Views.{placed}
 use Rattle.tb_model.specs.Refinement.{low, high, line}
 use Rattle.tb_geometry.specs.Base.{base_axes, base_lines, base_counts, base_of, base_number, IsBaseCell}
 use Rattle.tb_geometry.specs.Cubes.{HoldsCube}
 use Rattle.tb_geometry.specs.Faults.{IsAccepted}
 use Rattle.tb_geometry.specs.declared.occupant.Occupant.{Occupant}
 use Rattle.tb_geometry.specs.declared.occupant.Occupant.TheVariants.{Solid, Air}
-use Rattle.tb_geometry.specs.Tests.{is_solid}
+use Rattle.tb_geometry.specs.Boxes.{is_solid}
 use Rattle.tb_geometry.specs.declared.painting.CellRange.{CellRange}
 
 -- a box reaches from one coordinate up to a higher one on each axis
@@ -48,8 +48,8 @@ HoldsCorner boxes p b = HoldsCube b (line (base_of boxes) X p.i) (line (base_of 
 
 -- a range is that of the base cells between a box's coordinates
 pub record IsRangeOf (boxes : List SpaceBox) (b : SpaceBox) (r : CellRange) : Type 0 where
-  pub from : (a : AxisName) → IsLineAt (base_lines a boxes) (low a b) (index_along a (placed r.from))
-  pub to : (a : AxisName) → IsLineAt (base_lines a boxes) (high a b) (index_along a (placed r.to))
+  pub from : (a : AxisName) → IsLineAt (base_lines a boxes) (low a b) (index_along a r.from)
+  pub to : (a : AxisName) → IsLineAt (base_lines a boxes) (high a b) (index_along a r.to)
 
 -- the table of the first n boxes, the later one where two hold a cell
 pub record IsTable (boxes : List SpaceBox) (n : ℕ) (table : List ℕ) : Type 0 where
@@ -61,10 +61,8 @@ pub record IsTable (boxes : List SpaceBox) (n : ℕ) (table : List ℕ) : Type 0
   pub either : (p : Place) → IsBaseCell boxes p → (holder boxes table p < n) ⊎ (holder boxes table p ≡ free)
 
 -- the first place of a table that is free
-pub record IsFirstFree (table : List ℕ) (n : ℕ) : Type 0 where
-  pub within : n < length table
-  pub is_free : slice_index table n ≡ free
-  pub first : (m : ℕ) → m < n → slice_index table m ≢ free
+abbrev pub IsFirstFree : List ℕ → ℕ → Type 0
+IsFirstFree table = IsFirst (λ n. n) (λ n. n < length table) (λ n. slice_index table n ≢ free) (λ n. slice_index table n ≡ free)
 
 -- each base cell has a box that holds it
 pub record HasHolders (boxes : List SpaceBox) (table : List ℕ) : Type 0 where

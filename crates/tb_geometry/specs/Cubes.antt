@@ -5,13 +5,13 @@ use Rattle.std.specs.Prelude.{ℕ, ◌-◌, ◌<◌, ◌≤◌, ◌≡◌, ◌�
 use Rattle.std.specs.List.{Any, AllPairs}
 use Rattle.tb_places.specs.declared.AxisName.{AxisName}
 use Rattle.tb_places.specs.declared.AxisName.TheVariants.{X, Y, Z}
+use Rattle.tb_places.specs.Ranges.{IsWithin}
 use Rattle.tb_detail.specs.declared.SpaceBox.{SpaceBox}
 use Rattle.tb_model.specs.Refinement.{low, high}
 
 -- a box reaches over the coordinate x of an axis: it begins there or before, and ends behind
-pub record ReachesOver (a : AxisName) (b : SpaceBox) (x : ℕ) : Type 0 where
-  pub from : low a b ≤ x
-  pub below : x < high a b
+abbrev pub ReachesOver : AxisName → SpaceBox → ℕ → Type 0
+ReachesOver a b = IsWithin (low a b) (high a b)
 
 -- a box holds the unit cube at (x,y,z)
 pub record HoldsCube (b : SpaceBox) (x y z : ℕ) : Type 0 where

@@ -6,7 +6,7 @@ use Rattle.std.specs.List.{Any}
 use Rattle.tb_detail.specs.declared.Content.TheVariants.{Solid}
 use Rattle.tb_detail.specs.declared.SpaceBox.{SpaceBox}
 use Rattle.tb_detail.specs.declared.Detail.{Detail}
-use Rattle.tb_places.specs.Inverse.{Place}
+use Rattle.tb_places.specs.declared.Place.{Place}
 use Rattle.tb_places.specs.Places.{cell_count}
 use Rattle.tb_walk.specs.Isolated.{IsFirstIsolated, NoneIsolated}
 use Rattle.tb_grid.specs.Grid.{most_cells}

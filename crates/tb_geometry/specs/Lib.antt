@@ -3,9 +3,9 @@ pub mod Bodies
 pub mod Cubes
 pub mod Faults
 pub mod FaultTexts
-pub mod Tests
-pub mod Steps
+pub mod Boxes
+pub mod Outcomes
 pub mod Painting
 pub mod Volumes
-pub mod Seen
+pub mod Grids
 pub mod Cases

@@ -1,14 +1,10 @@
 -- A range of cells, and what stands in a table once it is painted.
 use Rattle.std.specs.Prelude.{ℕ, ◌≡◌, ◌<◌, ◌≤◌, List, length, slice_index}
 use Rattle.tb_places.specs.declared.AxisName.TheVariants.{X, Y, Z}
-use Rattle.tb_places.specs.Inverse.{Place}
+use Rattle.tb_places.specs.declared.Place.{Place}
 use Rattle.tb_places.specs.Places.{Counts, IsCell, cell_number}
+use Rattle.tb_places.specs.Ranges.{IsWithin}
 use Rattle.tb_geometry.specs.declared.painting.CellRange.{CellRange}
-
--- an index is in a range, which has its low end but not its high end
-pub record IsWithin (low high i : ℕ) : Type 0 where
-  pub from : low ≤ i
-  pub below : i < high
 
 -- a range has a cell
 pub record HasCell (r : CellRange) (p : Place) : Type 0 where
@@ -35,9 +31,9 @@ pub record IsWritten (from to value : ℕ) (old new : List ℕ) : Type 0 where
 -- the cells of a set have the value, and the others what they had
 pub record IsPainted (n : Counts) (In : Place → Type 0) (value : ℕ) (old new : List ℕ) : Type 0 where
   pub same_length : length new ≡ length old
-  pub hit : (p : Place) → IsCell n p.i p.j p.k → In p → slice_index new (cell_number n p.i p.j p.k) ≡ value
-  pub miss : (p : Place) → IsCell n p.i p.j p.k → ¬ In p →
-      slice_index new (cell_number n p.i p.j p.k) ≡ slice_index old (cell_number n p.i p.j p.k)
+  pub hit : (p : Place) → IsCell n p → In p → slice_index new (cell_number n p) ≡ value
+  pub miss : (p : Place) → IsCell n p → ¬ In p →
+      slice_index new (cell_number n p) ≡ slice_index old (cell_number n p)
 
 -- the cells of a range in one layer, and those of its first rows there
 pub record InLayer (r : CellRange) (k : ℕ) (p : Place) : Type 0 where

@@ -5,7 +5,7 @@ ghost use Rattle.tb_places.specs.Inverse.{cell_place};
 ghost use Rattle.tb_places.specs.Places.{cell_count};
 ghost use Rattle.tb_geometry.specs.Base.{base_lines, coordinates};
 ghost use Rattle.tb_geometry.specs.Bodies.{AreBoxes};
-ghost use Rattle.tb_geometry.specs.Steps.{HasGrid};
+ghost use Rattle.tb_geometry.specs.Outcomes.{HasGrid};
 
 use crate::boxes::{high, low};
 use crate::fault::{BodyFault, BodyRefusal};

@@ -53,7 +53,7 @@ fn materials_of(detail: &Detail) -> &[Material]
 impl Body {
     ghost use Rattle.tb_geometry.specs.Base.{base_axes};
     ghost use Rattle.tb_geometry.specs.Faults.{Answers, IsAccepted};
-    ghost use Rattle.tb_geometry.specs.Seen.{CarriesBody};
+    ghost use Rattle.tb_geometry.specs.Grids.{CarriesBody};
 
     /// The body of a detail.
     ///

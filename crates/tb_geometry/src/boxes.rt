@@ -3,7 +3,7 @@ ghost use Rattle.std.specs.Prelude.{◌≡◌, MatchOption, position};
 ghost use Rattle.std.specs.List.{list_any};
 ghost use Rattle.tb_geometry.specs.Bodies.{AreBoxes};
 ghost use Rattle.tb_geometry.specs.Cubes.{AreApart, IsFirstOverlap};
-ghost use Rattle.tb_geometry.specs.Tests.{is_solid, meet, meet_along};
+ghost use Rattle.tb_geometry.specs.Boxes.{is_solid, meet, meet_along};
 ghost use Rattle.tb_model.specs.Refinement.{high, low};
 
 use tb_detail::{Content, Detail, SpaceBox};

@@ -1,19 +1,19 @@
 // What fills the cells of a grid that carries a body, and the kinds of its faces.
 ghost use Rattle.std.specs.Prelude.{◌≡◌, ◌<◌, Some, length, option_map, slice_get, slice_index};
 ghost use Rattle.tb_grid.specs.Axis.{IsBetweenEnds, IsIntervalOf};
-ghost use Rattle.tb_grid.specs.Direction.{ahead, index_along};
+ghost use Rattle.tb_places.specs.Along.{ahead, index_along};
 ghost use Rattle.tb_grid.specs.Grid.{counts_of, lines_of};
-ghost use Rattle.tb_grid.specs.Views.{face_placed, placed};
 ghost use Rattle.tb_places.specs.declared.AxisName.{AxisName};
 ghost use Rattle.tb_places.specs.Inverse.{cell_place, face_place};
 ghost use Rattle.tb_places.specs.Places.{IsCell, IsFace, cell_count, face_count};
 ghost use Rattle.tb_model.specs.Mesh.{kind_between};
 ghost use Rattle.tb_geometry.specs.Bodies.{filled_with};
-ghost use Rattle.tb_geometry.specs.Seen.{CarriesBody, above_face, below_face, content_of, kind_at, low_side, mesh_on, occupant_at};
+ghost use Rattle.tb_geometry.specs.Grids.{CarriesBody, above_face, below_face, content_of, low_side, mesh_on, occupant_at};
+ghost use Rattle.tb_model.specs.Mesh.{kind_at};
 
 use crate::body::Body;
 use crate::occupant::Occupant;
-use tb_grid::{Axis, AxisName, CellId, FaceId, Grid, GridFace, GridPlace};
+use tb_grid::{Axis, AxisName, CellId, FaceId, FacePlace, Grid, Place};
 use tb_model::FaceKind;
 
 impl Body {
@@ -31,17 +31,18 @@ impl Body {
     pub fn kind(&self, grid: &Grid, face: FaceId) -> FaceKind
         requires carries { CarriesBody grid.now self.now }
         requires face { face.0 < face_count (counts_of grid.now) }
-        ensures { result ≡ kind_at (mesh_on self.now grid.now) (face_place (counts_of grid.now) face.0) }
+        ensures { result ≡ let at = face_place (counts_of grid.now) face.0 in
+            kind_at (mesh_on self.now grid.now) at.axis at.place }
     {
         let face = grid.counts().face_place(face);
         kind_from(self.below(grid, face), self.above(grid, face))
     }
 
     // What lies below a face: nothing, where the face stands at the first line of its axis.
-    fn below(&self, grid: &Grid, face: GridFace) -> Option<Occupant>
+    fn below(&self, grid: &Grid, face: FacePlace) -> Option<Occupant>
         requires carries { CarriesBody grid.now self.now }
-        requires face { IsFace (counts_of grid.now) face.axis face.place.i face.place.j face.place.k }
-        ensures { let side = below_face (mesh_on self.now grid.now) (face_placed face) in
+        requires face { IsFace (counts_of grid.now) face.axis face.place }
+        ensures { let side = below_face (mesh_on self.now grid.now) face in
             result ≡ option_map (filled_with self.now.materials) side }
     {
         if face.place.along(face.axis) == 0 {
@@ -51,10 +52,10 @@ impl Body {
     }
 
     // What lies above a face: nothing, where the face stands at the last line of its axis.
-    fn above(&self, grid: &Grid, face: GridFace) -> Option<Occupant>
+    fn above(&self, grid: &Grid, face: FacePlace) -> Option<Occupant>
         requires carries { CarriesBody grid.now self.now }
-        requires face { IsFace (counts_of grid.now) face.axis face.place.i face.place.j face.place.k }
-        ensures { let side = above_face (mesh_on self.now grid.now) (face_placed face) in
+        requires face { IsFace (counts_of grid.now) face.axis face.place }
+        ensures { let side = above_face (mesh_on self.now grid.now) face in
             result ≡ option_map (filled_with self.now.materials) side }
     {
         if face.place.along(face.axis) == grid.counts().along(face.axis) {
@@ -64,10 +65,10 @@ impl Body {
     }
 
     // What fills the cell at a place: what fills the base cell in which it lies.
-    fn occupant_at(&self, grid: &Grid, cell: GridPlace) -> Occupant
+    fn occupant_at(&self, grid: &Grid, cell: Place) -> Occupant
         requires carries { CarriesBody grid.now self.now }
-        requires cell { IsCell (counts_of grid.now) cell.i cell.j cell.k }
-        ensures { Some result ≡ occupant_at self.now grid.now (placed cell) }
+        requires cell { IsCell (counts_of grid.now) cell }
+        ensures { Some result ≡ occupant_at self.now grid.now cell }
     {
         let place = base_place(&self.base, grid, cell);
         let base_cell = self.base.counts().cell_number(place);
@@ -90,14 +91,14 @@ fn filling(holders: &[u16], occupants: &[Occupant], base_cell: CellId) -> Occupa
 }
 
 // The place of the base cell in which a cell of a grid lies.
-fn base_place(base: &Grid, grid: &Grid, cell: GridPlace) -> GridPlace
-    requires cell { IsCell (counts_of grid.now) cell.i cell.j cell.k }
+fn base_place(base: &Grid, grid: &Grid, cell: Place) -> Place
+    requires cell { IsCell (counts_of grid.now) cell }
     requires between { (a : AxisName) →
-        IsBetweenEnds (lines_of base.now a) (low_side grid.now a (placed cell)) }
-    ensures { (a : AxisName) → let line = low_side grid.now a (placed cell) in
-        IsIntervalOf (lines_of base.now a) line (index_along a (placed result)) }
+        IsBetweenEnds (lines_of base.now a) (low_side grid.now a cell) }
+    ensures { (a : AxisName) → let line = low_side grid.now a cell in
+        IsIntervalOf (lines_of base.now a) line (index_along a result) }
 {
-    GridPlace {
+    Place {
         i: base_interval(base.axis(AxisName::X), grid.axis(AxisName::X), cell.i),
         j: base_interval(base.axis(AxisName::Y), grid.axis(AxisName::Y), cell.j),
         k: base_interval(base.axis(AxisName::Z), grid.axis(AxisName::Z), cell.k),
@@ -117,15 +118,15 @@ fn base_interval(base: &Axis, axis: &Axis, i: u32) -> u32
 }
 
 // The place of the cell below a face.
-fn cell_below(face: GridFace) -> GridPlace
-    requires { 0 < index_along face.axis (placed face.place) }
-    ensures { ahead face.axis 1 (placed result) ≡ placed face.place }
+fn cell_below(face: FacePlace) -> Place
+    requires { 0 < index_along face.axis face.place }
+    ensures { ahead face.axis 1 result ≡ face.place }
 {
-    let GridPlace { i, j, k } = face.place;
+    let Place { i, j, k } = face.place;
     match face.axis {
-        AxisName::X => GridPlace { i: i - 1, j, k },
-        AxisName::Y => GridPlace { i, j: j - 1, k },
-        AxisName::Z => GridPlace { i, j, k: k - 1 },
+        AxisName::X => Place { i: i - 1, j, k },
+        AxisName::Y => Place { i, j: j - 1, k },
+        AxisName::Z => Place { i, j, k: k - 1 },
     }
 }
 

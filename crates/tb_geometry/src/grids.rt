@@ -4,7 +4,7 @@ ghost use Rattle.std.specs.List.{Contains};
 ghost use Rattle.tb_grid.specs.Grid.{IsGrid, lines_of};
 ghost use Rattle.tb_places.specs.declared.AxisName.{AxisName};
 ghost use Rattle.tb_geometry.specs.Base.{base_lines};
-ghost use Rattle.tb_geometry.specs.Seen.{CarriesBody, CarriesLines, HasLines, IsFirstMissing};
+ghost use Rattle.tb_geometry.specs.Grids.{CarriesBody, CarriesLines, HasLines, IsFirstMissing};
 
 use crate::body::Body;
 use tb_grid::{Axis, AxisName, Grid};

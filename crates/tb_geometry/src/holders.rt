@@ -2,22 +2,21 @@
 ghost use Rattle.std.specs.Prelude.{◌≡◌, ◌≢◌, ◌≤◌, EachIndex, IfOk, MatchOption, length, slice_index};
 ghost use Rattle.std.specs.List.{Contains};
 ghost use Rattle.tb_grid.specs.Axis.{IsLineAt};
-ghost use Rattle.tb_grid.specs.Direction.{index_along};
+ghost use Rattle.tb_places.specs.Along.{index_along};
 ghost use Rattle.tb_grid.specs.Grid.{lines_of, most_cells};
-ghost use Rattle.tb_grid.specs.Views.{placed};
 ghost use Rattle.tb_model.specs.Refinement.{high, low};
 ghost use Rattle.tb_places.specs.declared.AxisName.{AxisName};
 ghost use Rattle.tb_places.specs.Places.{cell_count};
 ghost use Rattle.tb_geometry.specs.Base.{base_axes, base_counts};
 ghost use Rattle.tb_geometry.specs.Bodies.{AreBoxes, IsFirstFree, IsTable};
-ghost use Rattle.tb_geometry.specs.Steps.{Covers};
+ghost use Rattle.tb_geometry.specs.Outcomes.{Covers};
 
 use crate::base::low_corner;
 use crate::fault::{BodyFault, BodyRefusal};
 use crate::painting::{CellRange, paint};
 use std::alloc::{AllocError, Global};
 use tb_detail::SpaceBox;
-use tb_grid::{AxisName, CellId, Grid, GridPlace};
+use tb_grid::{AxisName, CellId, Grid, Place};
 
 // The mark of a base cell that no box holds: no place of a box, of which there are at most `MOST_BOXES`.
 const FREE: u16 = 65535;
@@ -37,15 +36,15 @@ fn line_at(base: &Grid, axis: AxisName, x: u32) -> u32
 fn cells_of(base: &Grid, b: &SpaceBox) -> CellRange
     requires lows { (a : AxisName) → Contains (lines_of base.now a) (low a b.now) }
     requires highs { (a : AxisName) → Contains (lines_of base.now a) (high a b.now) }
-    ensures from { (a : AxisName) → IsLineAt (lines_of base.now a) (low a b.now) (index_along a (placed result.from)) }
-    ensures to { (a : AxisName) → IsLineAt (lines_of base.now a) (high a b.now) (index_along a (placed result.to)) }
+    ensures from { (a : AxisName) → IsLineAt (lines_of base.now a) (low a b.now) (index_along a result.from) }
+    ensures to { (a : AxisName) → IsLineAt (lines_of base.now a) (high a b.now) (index_along a result.to) }
 {
-    let from = GridPlace {
+    let from = Place {
         i: line_at(base, AxisName::X, b.span.x0),
         j: line_at(base, AxisName::Y, b.span.y0),
         k: line_at(base, AxisName::Z, b.span.z0),
     };
-    let to = GridPlace {
+    let to = Place {
         i: line_at(base, AxisName::X, b.span.x1),
         j: line_at(base, AxisName::Y, b.span.y1),
         k: line_at(base, AxisName::Z, b.span.z1),

@@ -6,34 +6,28 @@
 ghost use Rattle.std.specs.Prelude.{◌≡◌, ◌⊎◌, ◌↔◌, ◌≤◌, ℕ, List, Result, Contains, ◌+◌, ◌-◌, ◌^◌, ◌<◌, not};
 ghost use Rattle.std.specs.List.{sum_by};
 ghost use Rattle.tb_places.specs.declared.AxisName.{AxisName};
-ghost use Rattle.tb_places.specs.Inverse.{Place};
+ghost use Rattle.tb_places.specs.declared.Place.{Place};
 ghost use Rattle.tb_places.specs.Places.{IsCell};
 ghost use Rattle.tb_detail.specs.declared.Detail.{Detail};
 ghost use Rattle.tb_detail.specs.declared.SpaceBox.{SpaceBox};
 ghost use Rattle.tb_detail.specs.Limits.{InLimits};
 ghost use Rattle.tb_grid.specs.Axis.{AreLinesThrough};
 ghost use Rattle.tb_grid.specs.Grid.{Axes, counts_of};
-ghost use Rattle.tb_model.specs.Refinement.{Refines, scene_of};
 ghost use Rattle.tb_geometry.specs.declared.fault.BodyFault.{BodyFault};
 ghost use Rattle.tb_geometry.specs.declared.fault.BodyRefusal.{BodyRefusal};
 ghost use Rattle.tb_geometry.specs.declared.fault.BodyRefusal.TheVariants.{Fault, NoMemory};
-ghost use Rattle.tb_geometry.specs.Base.{HasCube, IsBaseCell, IsFilledBy, base_axes, base_lines, base_mesh, base_of, coordinates};
+ghost use Rattle.tb_geometry.specs.Base.{HasCube, IsBaseCell, IsFilledBy, base_axes, base_lines, base_mesh, coordinates};
 ghost use Rattle.tb_geometry.specs.Cubes.{AreApart, HoldsCube, IsInHull, IsCovered};
 ghost use Rattle.tb_geometry.specs.Cases.{is_case};
 ghost use Rattle.tb_geometry.specs.Volumes.{IsHull, box_volume, volume};
 ghost use Rattle.tb_geometry.specs.Faults.{Answers, HasFault, IsAccepted};
-ghost use Rattle.tb_geometry.specs.Seen.{CarriesBody, IsInBox};
+ghost use Rattle.tb_geometry.specs.Grids.{CarriesBody, IsInBox};
 
 /// The base lines of an axis are the lines through all coordinates of boxes, and no other list is.
 pub fn base_lines_are_the_coordinates()
     ensures through { (a : AxisName) (boxes : List SpaceBox) → AreLinesThrough (coordinates a boxes) (base_lines a boxes) }
     ensures unique { (a : AxisName) (boxes : List SpaceBox) (lines : List ℕ) → AreLinesThrough (coordinates a boxes) lines
         → lines ≡ base_lines a boxes }
-{}
-
-/// The base grid is a refinement of the body.
-pub fn the_base_grid_is_a_refinement()
-    ensures { (d : Detail) → InLimits d → Refines (scene_of d) (base_of d.boxes) }
 {}
 
 /// A box holds all cubes of a base cell or none.
@@ -71,14 +65,14 @@ pub fn there_is_one_answer()
         → Answers d result → (result ≡ Err (Fault fault)) ⊎ (result ≡ Err NoMemory) }
 {}
 
-/// The base grid carries the body.
+/// The base grid carries the body: it is a refinement of it.
 pub fn the_base_grid_carries_the_body()
     ensures { (d : Detail) → InLimits d → CarriesBody (base_axes d.boxes) d }
 {}
 
 /// Each cell of a grid that carries an accepted body lies in one box, which fills it.
 pub fn cells_lie_in_boxes()
-    ensures { (d : Detail) (g : Axes) (p : Place) → IsAccepted d → CarriesBody g d → IsCell (counts_of g) p.i p.j p.k
+    ensures { (d : Detail) (g : Axes) (p : Place) → IsAccepted d → CarriesBody g d → IsCell (counts_of g) p
         → IsInBox d g p }
 {}
 

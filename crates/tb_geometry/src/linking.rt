@@ -3,7 +3,7 @@ ghost use Rattle.std.specs.Prelude.{◌≡◌, ◌<◌, All, IfOk, length};
 ghost use Rattle.tb_geometry.specs.Base.{base_axes};
 ghost use Rattle.tb_geometry.specs.Bodies.{HasHolders, solid_flags};
 ghost use Rattle.tb_geometry.specs.Cubes.{AreApart};
-ghost use Rattle.tb_geometry.specs.Steps.{Links};
+ghost use Rattle.tb_geometry.specs.Outcomes.{Links};
 
 use crate::base::low_corner;
 use crate::boxes::{boxes_of, is_solid};

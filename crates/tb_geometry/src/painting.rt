@@ -4,13 +4,13 @@ ghost use Rattle.tb_grid.specs.Views.{along_axes};
 ghost use Rattle.tb_places.specs.Places.{cell_count};
 ghost use Rattle.tb_geometry.specs.Painting.{FitsIn, HasCell, InLayer, IsWritten, IsPainted};
 
-use tb_grid::{CellCounts, GridPlace};
+use tb_grid::{CellCounts, Place};
 
 /// The cells whose indexes are, on each axis, `from` or above and below `to`.
 #[derive(Clone, Copy, Debug)]
 pub struct CellRange {
-    pub from: GridPlace,
-    pub to: GridPlace,
+    pub from: Place,
+    pub to: Place,
 }
 
 // Writes a number at the places from one up to another.
@@ -30,7 +30,7 @@ fn paint_layer(table: &mut [u16], counts: CellCounts, range: CellRange, k: u32, 
     ensures { IsPainted (along_axes counts) (InLayer range k) number table.old table.new }
 {
     for j in range.from.j..range.to.j {
-        let first = GridPlace {
+        let first = Place {
             i: range.from.i,
             j,
             k,

@@ -3,10 +3,12 @@ use Rattle.std.proofs.Common.{◌≡◌, ℕ, ◌+◌, ◌-◌, ◌*◌, ◌/◌
 use Rattle.std.proofs.lemmas.Nat.{mod_below, div_below, mod-mul-add, div-mul-add, div-add-mod'}
 use Rattle.tb_places.specs.declared.AxisName.{AxisName}
 use Rattle.tb_places.specs.declared.AxisName.TheVariants.{X, Y, Z}
-use Rattle.tb_places.specs.Inverse.{Place}
+use Rattle.tb_places.specs.declared.Place.{Place}
 use Rattle.tb_places.specs.Places.{Counts, IsCell, IsNode, IsEdge}
+use Rattle.tb_places.proofs.Meeting.{edge_of_cell, end_of_edge}
 use Rattle.tb_places.proofs.Rows.{same_place, same_indexes}
-use Rattle.tb_grid.specs.Direction.{IsEdgeOf, ahead, corner_edge}
+use Rattle.tb_grid.specs.Direction.{IsEdgeOf}
+use Rattle.tb_places.specs.Along.{ahead, corner_edge}
 
 -- the two sides of a corner
 pub sides : (corner : ℕ) → corner < 4 → (corner % 2 ≤ 1) × (corner / 2 ≤ 1)
@@ -16,23 +18,19 @@ sides corner below =
     (omega arith, omega arith)
 
 -- a corner of a cell is an edge of the grid
-pub corner_is_edge : (n : Counts) (a : AxisName) (cell : Place) (corner : ℕ) → IsCell n cell.i cell.j cell.k → corner < 4 →
-    let e = corner_edge a corner cell in IsEdge n a e.i e.j e.k
-corner_is_edge n X cell corner within below = let s = sides corner below in (omega arith, omega arith, omega arith)
-corner_is_edge n Y cell corner within below = let s = sides corner below in (omega arith, omega arith, omega arith)
-corner_is_edge n Z cell corner within below = let s = sides corner below in (omega arith, omega arith, omega arith)
+pub corner_is_edge : (n : Counts) (a : AxisName) (cell : Place) (corner : ℕ) → IsCell n cell → corner < 4 →
+    IsEdge n a (corner_edge a corner cell)
+corner_is_edge n a cell corner within below =
+    let s = sides corner below in edge_of_cell n a cell (corner % 2) (corner / 2) within s.0 s.1
 
 -- and its ends are nodes
-pub edge_starts : (n : Counts) (a : AxisName) (e : Place) → IsEdge n a e.i e.j e.k → IsNode n e.i e.j e.k
+pub edge_starts : (n : Counts) (a : AxisName) (e : Place) → IsEdge n a e → IsNode n e
 edge_starts n X e within = (omega arith, omega arith, omega arith)
 edge_starts n Y e within = (omega arith, omega arith, omega arith)
 edge_starts n Z e within = (omega arith, omega arith, omega arith)
 
-pub edge_ends : (n : Counts) (a : AxisName) (e : Place) → IsEdge n a e.i e.j e.k →
-    let f = ahead a 1 e in IsNode n f.i f.j f.k
-edge_ends n X e within = (omega arith, omega arith, omega arith)
-edge_ends n Y e within = (omega arith, omega arith, omega arith)
-edge_ends n Z e within = (omega arith, omega arith, omega arith)
+pub edge_ends : (n : Counts) (a : AxisName) (e : Place) → IsEdge n a e → IsNode n (ahead a 1 e)
+edge_ends n a e within = end_of_edge n a e 1 within (omega arith)
 
 -- ---- the corners are exactly the edges of the cell along the axis
 

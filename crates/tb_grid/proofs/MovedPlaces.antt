@@ -9,11 +9,12 @@ use Rattle.std.proofs.lemmas.Bool.{lt-ltb, le-ltb}
 use Rattle.tb_places.specs.declared.AxisName.{AxisName}
 use Rattle.tb_places.specs.declared.AxisName.TheVariants.{X, Y, Z}
 use Rattle.tb_places.specs.Cuts.{in_both, cut_counts, moved}
-use Rattle.tb_places.specs.Inverse.{Place}
+use Rattle.tb_places.specs.declared.Place.{Place}
 use Rattle.tb_places.specs.Places.{Counts, IsCell, IsNode, IsFace, IsEdge}
 use Rattle.tb_places.proofs.CutLines.{both-up_to, both-from}
 use Rattle.tb_grid.specs.Cuts.{moved_place}
-use Rattle.tb_grid.specs.Direction.{ahead, index_along}
+use Rattle.tb_places.specs.Places.{place_at}
+use Rattle.tb_places.specs.Along.{ahead, index_along}
 
 -- Indexes --
 
@@ -88,17 +89,17 @@ list_second p f = ap (in_both p f) (next p) ∙ both-from p f p (omega arith)
 
 -- Places --
 
-pub moved_is_cell : (a : AxisName) (p : ℕ) (n : Counts) (q : Place) → IsCell n q.i q.j q.k → let r = moved_place a p q in IsCell (cut_counts a n) r.i r.j r.k
+pub moved_is_cell : (a : AxisName) (p : ℕ) (n : Counts) (q : Place) → IsCell n q → let r = moved_place a p q in IsCell (cut_counts a n) r
 moved_is_cell X p n q (x, y, z) = (moved_below p q.i (n X) x, y, z)
 moved_is_cell Y p n q (x, y, z) = (x, moved_below p q.j (n Y) y, z)
 moved_is_cell Z p n q (x, y, z) = (x, y, moved_below p q.k (n Z) z)
 
-pub moved_is_node : (a : AxisName) (p : ℕ) (n : Counts) (q : Place) → IsNode n q.i q.j q.k → let r = moved_place a p q in IsNode (cut_counts a n) r.i r.j r.k
+pub moved_is_node : (a : AxisName) (p : ℕ) (n : Counts) (q : Place) → IsNode n q → let r = moved_place a p q in IsNode (cut_counts a n) r
 moved_is_node X p n q (x, y, z) = (moved_at_most p q.i (n X) x, y, z)
 moved_is_node Y p n q (x, y, z) = (x, moved_at_most p q.j (n Y) y, z)
 moved_is_node Z p n q (x, y, z) = (x, y, moved_at_most p q.k (n Z) z)
 
-pub moved_is_face : (a : AxisName) (p : ℕ) (n : Counts) (b : AxisName) (q : Place) → IsFace n b q.i q.j q.k → let r = moved_place a p q in IsFace (cut_counts a n) b r.i r.j r.k
+pub moved_is_face : (a : AxisName) (p : ℕ) (n : Counts) (b : AxisName) (q : Place) → IsFace n b q → let r = moved_place a p q in IsFace (cut_counts a n) b r
 moved_is_face X p n X q (x, y, z) = (moved_at_most p q.i (n X) x, y, z)
 moved_is_face X p n Y q (x, y, z) = (moved_below p q.i (n X) x, y, z)
 moved_is_face X p n Z q (x, y, z) = (moved_below p q.i (n X) x, y, z)
@@ -109,7 +110,7 @@ moved_is_face Z p n X q (x, y, z) = (x, y, moved_below p q.k (n Z) z)
 moved_is_face Z p n Y q (x, y, z) = (x, y, moved_below p q.k (n Z) z)
 moved_is_face Z p n Z q (x, y, z) = (x, y, moved_at_most p q.k (n Z) z)
 
-pub moved_is_edge : (a : AxisName) (p : ℕ) (n : Counts) (b : AxisName) (q : Place) → IsEdge n b q.i q.j q.k → let r = moved_place a p q in IsEdge (cut_counts a n) b r.i r.j r.k
+pub moved_is_edge : (a : AxisName) (p : ℕ) (n : Counts) (b : AxisName) (q : Place) → IsEdge n b q → let r = moved_place a p q in IsEdge (cut_counts a n) b r
 moved_is_edge X p n X q (x, y, z) = (moved_below p q.i (n X) x, y, z)
 moved_is_edge X p n Y q (x, y, z) = (moved_at_most p q.i (n X) x, y, z)
 moved_is_edge X p n Z q (x, y, z) = (moved_at_most p q.i (n X) x, y, z)
@@ -124,10 +125,10 @@ moved_is_edge Z p n Z q (x, y, z) = (x, y, moved_below p q.k (n Z) z)
 pub record OldPlace (a : AxisName) (p : ℕ) (q : Place) : Type 0 where
   pub old : Place
   pub is : moved_place a p old ≡ q
-  pub cell : (n : Counts) → p < n a → IsCell (cut_counts a n) q.i q.j q.k → IsCell n old.i old.j old.k
-  pub node : (n : Counts) → p < n a → IsNode (cut_counts a n) q.i q.j q.k → IsNode n old.i old.j old.k
-  pub face : (n : Counts) (b : AxisName) → p < n a → IsFace (cut_counts a n) b q.i q.j q.k → IsFace n b old.i old.j old.k
-  pub edge : (n : Counts) (b : AxisName) → p < n a → IsEdge (cut_counts a n) b q.i q.j q.k → IsEdge n b old.i old.j old.k
+  pub cell : (n : Counts) → p < n a → IsCell (cut_counts a n) q → IsCell n old
+  pub node : (n : Counts) → p < n a → IsNode (cut_counts a n) q → IsNode n old
+  pub face : (n : Counts) (b : AxisName) → p < n a → IsFace (cut_counts a n) b q → IsFace n b old
+  pub edge : (n : Counts) (b : AxisName) → p < n a → IsEdge (cut_counts a n) b q → IsEdge n b old
 
 on_x : (p : ℕ) (q : Place) → (q.i ≡ p + 1) ⊎ OldIndex p q.i → (index_along X q ≡ p + 1) ⊎ OldPlace X p q
 on_x p q (inl e) = inl e
@@ -146,18 +147,18 @@ on_x p q (inr o) = inr (record {
     placed : ℕ → Place
     placed t = record { i = t; j = q.j; k = q.k }
 
-    of_cell : (n : Counts) → p < n X → IsCell (cut_counts X n) q.i q.j q.k → IsCell n o.old q.j q.k
+    of_cell : (n : Counts) → p < n X → IsCell (cut_counts X n) q → IsCell n (place_at o.old q.j q.k)
     of_cell n l (x, y, z) = (o.below (n X) l x, y, z)
 
-    of_node : (n : Counts) → p < n X → IsNode (cut_counts X n) q.i q.j q.k → IsNode n o.old q.j q.k
+    of_node : (n : Counts) → p < n X → IsNode (cut_counts X n) q → IsNode n (place_at o.old q.j q.k)
     of_node n l (x, y, z) = (o.at_most (n X) l x, y, z)
 
-    of_face : (n : Counts) (b : AxisName) → p < n X → IsFace (cut_counts X n) b q.i q.j q.k → IsFace n b o.old q.j q.k
+    of_face : (n : Counts) (b : AxisName) → p < n X → IsFace (cut_counts X n) b q → IsFace n b (place_at o.old q.j q.k)
     of_face n X l (x, y, z) = (o.at_most (n X) l x, y, z)
     of_face n Y l (x, y, z) = (o.below (n X) l x, y, z)
     of_face n Z l (x, y, z) = (o.below (n X) l x, y, z)
 
-    of_edge : (n : Counts) (b : AxisName) → p < n X → IsEdge (cut_counts X n) b q.i q.j q.k → IsEdge n b o.old q.j q.k
+    of_edge : (n : Counts) (b : AxisName) → p < n X → IsEdge (cut_counts X n) b q → IsEdge n b (place_at o.old q.j q.k)
     of_edge n X l (x, y, z) = (o.below (n X) l x, y, z)
     of_edge n Y l (x, y, z) = (o.at_most (n X) l x, y, z)
     of_edge n Z l (x, y, z) = (o.at_most (n X) l x, y, z)
@@ -179,18 +180,18 @@ on_y p q (inr o) = inr (record {
     placed : ℕ → Place
     placed t = record { i = q.i; j = t; k = q.k }
 
-    of_cell : (n : Counts) → p < n Y → IsCell (cut_counts Y n) q.i q.j q.k → IsCell n q.i o.old q.k
+    of_cell : (n : Counts) → p < n Y → IsCell (cut_counts Y n) q → IsCell n (place_at q.i o.old q.k)
     of_cell n l (x, y, z) = (x, o.below (n Y) l y, z)
 
-    of_node : (n : Counts) → p < n Y → IsNode (cut_counts Y n) q.i q.j q.k → IsNode n q.i o.old q.k
+    of_node : (n : Counts) → p < n Y → IsNode (cut_counts Y n) q → IsNode n (place_at q.i o.old q.k)
     of_node n l (x, y, z) = (x, o.at_most (n Y) l y, z)
 
-    of_face : (n : Counts) (b : AxisName) → p < n Y → IsFace (cut_counts Y n) b q.i q.j q.k → IsFace n b q.i o.old q.k
+    of_face : (n : Counts) (b : AxisName) → p < n Y → IsFace (cut_counts Y n) b q → IsFace n b (place_at q.i o.old q.k)
     of_face n X l (x, y, z) = (x, o.below (n Y) l y, z)
     of_face n Y l (x, y, z) = (x, o.at_most (n Y) l y, z)
     of_face n Z l (x, y, z) = (x, o.below (n Y) l y, z)
 
-    of_edge : (n : Counts) (b : AxisName) → p < n Y → IsEdge (cut_counts Y n) b q.i q.j q.k → IsEdge n b q.i o.old q.k
+    of_edge : (n : Counts) (b : AxisName) → p < n Y → IsEdge (cut_counts Y n) b q → IsEdge n b (place_at q.i o.old q.k)
     of_edge n X l (x, y, z) = (x, o.at_most (n Y) l y, z)
     of_edge n Y l (x, y, z) = (x, o.below (n Y) l y, z)
     of_edge n Z l (x, y, z) = (x, o.at_most (n Y) l y, z)
@@ -212,18 +213,18 @@ on_z p q (inr o) = inr (record {
     placed : ℕ → Place
     placed t = record { i = q.i; j = q.j; k = t }
 
-    of_cell : (n : Counts) → p < n Z → IsCell (cut_counts Z n) q.i q.j q.k → IsCell n q.i q.j o.old
+    of_cell : (n : Counts) → p < n Z → IsCell (cut_counts Z n) q → IsCell n (place_at q.i q.j o.old)
     of_cell n l (x, y, z) = (x, y, o.below (n Z) l z)
 
-    of_node : (n : Counts) → p < n Z → IsNode (cut_counts Z n) q.i q.j q.k → IsNode n q.i q.j o.old
+    of_node : (n : Counts) → p < n Z → IsNode (cut_counts Z n) q → IsNode n (place_at q.i q.j o.old)
     of_node n l (x, y, z) = (x, y, o.at_most (n Z) l z)
 
-    of_face : (n : Counts) (b : AxisName) → p < n Z → IsFace (cut_counts Z n) b q.i q.j q.k → IsFace n b q.i q.j o.old
+    of_face : (n : Counts) (b : AxisName) → p < n Z → IsFace (cut_counts Z n) b q → IsFace n b (place_at q.i q.j o.old)
     of_face n X l (x, y, z) = (x, y, o.below (n Z) l z)
     of_face n Y l (x, y, z) = (x, y, o.below (n Z) l z)
     of_face n Z l (x, y, z) = (x, y, o.at_most (n Z) l z)
 
-    of_edge : (n : Counts) (b : AxisName) → p < n Z → IsEdge (cut_counts Z n) b q.i q.j q.k → IsEdge n b q.i q.j o.old
+    of_edge : (n : Counts) (b : AxisName) → p < n Z → IsEdge (cut_counts Z n) b q → IsEdge n b (place_at q.i q.j o.old)
     of_edge n X l (x, y, z) = (x, y, o.at_most (n Z) l z)
     of_edge n Y l (x, y, z) = (x, y, o.at_most (n Z) l z)
     of_edge n Z l (x, y, z) = (x, y, o.below (n Z) l z)
@@ -240,12 +241,12 @@ moved_place-apart Z p q r e = λ t. record { i = ap (λ (u : Place). u.i) e t; j
 
 -- Steps --
 
-pub second_within : (a : AxisName) (n : Counts) (q : Place) → IsCell n q.i q.j q.k → index_along a q + 1 < cut_counts a n a
+pub second_within : (a : AxisName) (n : Counts) (q : Place) → IsCell n q → index_along a q + 1 < cut_counts a n a
 second_within X n q (x, y, z) = omega arith
 second_within Y n q (x, y, z) = omega arith
 second_within Z n q (x, y, z) = omega arith
 
-pub high_is_face : (n : Counts) (a : AxisName) (q : Place) → IsCell n q.i q.j q.k → let r = ahead a 1 q in IsFace n a r.i r.j r.k
+pub high_is_face : (n : Counts) (a : AxisName) (q : Place) → IsCell n q → let r = ahead a 1 q in IsFace n a r
 high_is_face n X q (x, y, z) = (omega arith, y, z)
 high_is_face n Y q (x, y, z) = (x, omega arith, z)
 high_is_face n Z q (x, y, z) = (x, y, omega arith)

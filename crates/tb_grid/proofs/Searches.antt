@@ -1,23 +1,13 @@
 -- Where a coordinate lies among rising lines.
-use Rattle.std.proofs.Common.{◌≡◌, ℕ, ◌+◌, ◌<◌, ◌≤◌, ⊎_elim, List, length, get_or, arith, subst, ◌∙◌, Result, Ok, Err, nat_cmp}
+use Rattle.std.proofs.Common.{◌≡◌, ℕ, ◌+◌, ◌<◌, ◌≤◌, ⊎_elim, List, length, get_or, arith, ◌∙◌, Result, Ok, Err, nat_cmp}
 use Rattle.std.specs.Prelude.{MatchResult}
 use Rattle.std.specs.List.{Contains}
 use Rattle.std.specs.List.Sorted.{IsStrictlyIncreasing, IsBinarySearchResult}
 use Rattle.std.proofs.lemmas.Bool.{cases_lt}
 use Rattle.std.proofs.lemmas.List.{get_or_default}
-use Rattle.std.proofs.lemmas.List.Kept.{AllPairs-from_increasing}
 use Rattle.std.proofs.lemmas.List.Sorted.{searched}
 use Rattle.tb_grid.specs.Axis.{AreLinesUpTo}
-
--- a later line is above an earlier one
-rises : (lines : List ℕ) → IsStrictlyIncreasing lines → (i j : ℕ) → i < j → j < length lines → get_or lines i 0 < get_or lines j 0
-rises lines rising i j before within = AllPairs-from_increasing lines rising i j 0 before within
-
-never_falls : (lines : List ℕ) → IsStrictlyIncreasing lines → (i j : ℕ) → i ≤ j → j < length lines → get_or lines i 0 ≤ get_or lines j 0
-never_falls lines rising i j before within =
-    ⊎_elim (λ (early : i < j). let up : get_or lines i 0 < get_or lines j 0 = rises lines rising i j early within in omega arith)
-    (λ (late : j ≤ i). let same : i ≡ j = omega arith in subst (λ (m : ℕ). get_or lines i 0 ≤ get_or lines m 0) same (omega arith))
-    (cases_lt i j)
+use Rattle.tb_grid.proofs.RisingLists.{never_falls, rises}
 
 -- what a binary search finds among rising lines
 found_line : (lines : List ℕ) (x : ℕ) (r : Result ℕ ℕ) → IsStrictlyIncreasing lines → IsBinarySearchResult (λ y. nat_cmp y x) lines r →

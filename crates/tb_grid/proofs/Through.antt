@@ -1,40 +1,9 @@
 -- The lines through coordinates: there is one such list.
-use Rattle.std.proofs.Common.{◌≡◌, ℕ, zero, suc, ◌+◌, ◌<◌, ◌≤◌, ◌⊎◌, inl, inr, ⊎_elim, List, [], ◌∷◌, length, get_or, refl, sym, subst, ◌∙◌, ◌↔◌, arith}
+use Rattle.std.proofs.Common.{◌≡◌, ℕ, ◌<◌, ◌≤◌, ⊎_elim, List, [], ◌∷◌, length, refl, sym, ◌↔◌, arith}
 use Rattle.std.specs.List.{Contains}
 use Rattle.std.specs.List.Sorted.{IsStrictlyIncreasing}
-use Rattle.std.proofs.lemmas.List.{get_or_default}
-use Rattle.std.proofs.lemmas.List.Kept.{AllPairs-from_increasing}
 use Rattle.tb_grid.specs.Axis.{AreLinesThrough, HasTwo}
-
-pub member_cases : (x : ℕ) (xs : List ℕ) (n : ℕ) → Contains (x ∷ xs) n → (x ≡ n) ⊎ Contains xs n
-member_cases x xs n (zero, below, is) = inl is
-member_cases x xs n (suc k, below, is) = inr (k, omega arith, is)
-
-pub first_member : (x : ℕ) (xs : List ℕ) → Contains (x ∷ xs) x
-first_member x xs = (0, omega arith, refl)
-
-pub later_member : (x : ℕ) (xs : List ℕ) (n : ℕ) → Contains xs n → Contains (x ∷ xs) n
-later_member x xs n (k, below, is) = (suc k, omega arith, is)
-
-pub no_member : (n : ℕ) → Contains [] n → ⊥
-no_member n (k, below, is) = omega arith
-
-pub tail_rises : (x : ℕ) (xs : List ℕ) → IsStrictlyIncreasing (x ∷ xs) → IsStrictlyIncreasing xs
-tail_rises x xs rising k below =
-    let place : suc k + 1 ≡ suc (k + 1) = omega arith in
-    subst (λ (m : ℕ). get_or xs k 0 < get_or (x ∷ xs) m 0) place (rising (suc k) (omega arith))
-
--- a later line is above the first
-later_is_above : (x : ℕ) (xs : List ℕ) (n : ℕ) → IsStrictlyIncreasing (x ∷ xs) → Contains xs n → x < n
-later_is_above x xs n rising (k, below, is) =
-    let value : get_or xs k 0 ≡ n = get_or_default xs k 0 n below ∙ is in
-    subst (λ (m : ℕ). x < m) value (AllPairs-from_increasing (x ∷ xs) rising 0 (suc k) 0 (omega arith) (omega arith))
-
-first_is_least : (x : ℕ) (xs : List ℕ) (n : ℕ) → IsStrictlyIncreasing (x ∷ xs) → Contains (x ∷ xs) n → x ≤ n
-first_is_least x xs n rising there =
-    ⊎_elim (λ (here : x ≡ n). omega arith)
-    (λ (later : Contains xs n). let above : x < n = later_is_above x xs n rising later in omega arith)
-    (member_cases x xs n there)
+use Rattle.tb_grid.proofs.RisingLists.{first_is_least, first_member, later_is_above, later_member, member_cases, no_member, tail_rises}
 
 -- without their first lines, which are equal, two lists still have the same lines
 later_in : (x y : ℕ) (xs ys : List ℕ) → x ≡ y → IsStrictlyIncreasing (x ∷ xs) →
@@ -48,11 +17,11 @@ later_in x y xs ys same rising within n there =
 pub rising_unique : (xs ys : List ℕ) → IsStrictlyIncreasing xs → IsStrictlyIncreasing ys →
     ((n : ℕ) → Contains xs n ↔ Contains ys n) → xs ≡ ys
 rising_unique [] [] xs_rise ys_rise same = refl
-rising_unique [] (y ∷ ys) xs_rise ys_rise same = absurd (no_member y ((same y).1 (first_member y ys)))
-rising_unique (x ∷ xs) [] xs_rise ys_rise same = absurd (no_member x ((same x).0 (first_member x xs)))
+rising_unique [] (y ∷ ys) xs_rise ys_rise same = absurd (no_member y ((same y).1 (first_member y ys y refl)))
+rising_unique (x ∷ xs) [] xs_rise ys_rise same = absurd (no_member x ((same x).0 (first_member x xs x refl)))
 rising_unique (x ∷ xs) (y ∷ ys) xs_rise ys_rise same =
-    let y_least : y ≤ x = first_is_least y ys x ys_rise ((same x).0 (first_member x xs)) in
-    let x_least : x ≤ y = first_is_least x xs y xs_rise ((same y).1 (first_member y ys)) in
+    let y_least : y ≤ x = first_is_least y ys x ys_rise ((same x).0 (first_member x xs x refl)) in
+    let x_least : x ≤ y = first_is_least x xs y xs_rise ((same y).1 (first_member y ys y refl)) in
     let first : x ≡ y = omega arith in
     let rest : xs ≡ ys =
     rising_unique xs ys (tail_rises x xs xs_rise) (tail_rises y ys ys_rise)

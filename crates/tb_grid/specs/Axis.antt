@@ -1,6 +1,7 @@
 -- The lines of an axis: coordinates in 0.1 mm.
 use Rattle.std.specs.Prelude.{◌≡◌, ◌↔◌, ℕ, ◌+◌, ◌-◌, ◌<◌, ◌≤◌, List, length, take, slice_index, Contains}
 use Rattle.std.specs.List.Sorted.{IsStrictlyIncreasing}
+use Rattle.tb_places.specs.Ranges.{IsWithin}
 
 -- an axis has at most so many lines
 abbrev pub most_lines : ℕ
@@ -32,8 +33,7 @@ pub record IsLineAt (lines : List ℕ) (x i : ℕ) : Type 0 where
 -- the interval from line i to the next holds x, its low end but not its high end
 pub record IsIntervalOf (lines : List ℕ) (x i : ℕ) : Type 0 where
   pub within : i + 1 < length lines
-  pub from : slice_index lines i ≤ x
-  pub below : x < slice_index lines (i + 1)
+  pub holds : IsWithin (slice_index lines i) (slice_index lines (i + 1)) x
 
 -- n lines, the first ones, stand at x or below
 pub record AreLinesUpTo (lines : List ℕ) (x n : ℕ) : Type 0 where
@@ -43,7 +43,7 @@ pub record AreLinesUpTo (lines : List ℕ) (x n : ℕ) : Type 0 where
 
 -- x is between the first line and the last, on the first but not on the last
 abbrev pub IsBetweenEnds : List ℕ → ℕ → Type 0
-IsBetweenEnds lines x = (slice_index lines 0 ≤ x) × (x < slice_index lines (length lines - 1))
+IsBetweenEnds lines = IsWithin (slice_index lines 0) (slice_index lines (length lines - 1))
 
 -- how many intervals there are between the lines
 abbrev pub interval_count : List ℕ → ℕ

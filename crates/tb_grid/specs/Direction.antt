@@ -1,29 +1,13 @@
 -- A cell as seen along an axis: its width and cross-section, its two faces across the axis, and its four edges
 -- along it.
-use Rattle.std.specs.Prelude.{◌≡◌, ℕ, ◌+◌, ◌*◌, ◌/◌, ◌%◌, ◌≤◌}
+use Rattle.std.specs.Prelude.{◌≡◌, ℕ, ◌+◌, ◌*◌, ◌≤◌}
 use Rattle.tb_places.specs.declared.AxisName.{AxisName}
-use Rattle.tb_places.specs.declared.AxisName.TheVariants.{X, Y, Z}
-use Rattle.tb_places.specs.Inverse.{Place, cell_place}
-use Rattle.tb_places.specs.Places.{Counts, second, third, node_number, face_number}
+use Rattle.tb_places.specs.declared.Place.{Place}
+use Rattle.tb_places.specs.Along.{ahead, corner_edge, index_along}
+use Rattle.tb_places.specs.Inverse.{cell_place}
+use Rattle.tb_places.specs.Places.{Counts, face_number, node_number, second, third}
 use Rattle.tb_grid.specs.Axis.{interval_width}
 use Rattle.tb_grid.specs.Grid.{Axes, lines_of}
-
--- the index of a place along an axis
-abbrev pub index_along : AxisName → Place → ℕ
-index_along X p = p.i
-index_along Y p = p.j
-index_along Z p = p.k
-
--- the place so many indexes further along an axis
-abbrev pub ahead : AxisName → ℕ → Place → Place
-ahead X by p = record { i = p.i + by; j = p.j; k = p.k }
-ahead Y by p = record { i = p.i; j = p.j + by; k = p.k }
-ahead Z by p = record { i = p.i; j = p.j; k = p.k + by }
-
--- the place of an edge of a cell along an axis. Corner p + 2·q is on the low side (0) or the high side (1) of
--- the two other axes: p of the second, q of the third
-abbrev pub corner_edge : AxisName → ℕ → Place → Place
-corner_edge a corner cell = ahead (second a) (corner % 2) (ahead (third a) (corner / 2) cell)
 
 -- the width of the cell at a place along an axis, in 0.1 mm
 abbrev pub width_of : Axes → AxisName → Place → ℕ
@@ -33,29 +17,22 @@ width_of g a p = interval_width (lines_of g a) (index_along a p)
 abbrev pub area_of : Axes → AxisName → Place → ℕ
 area_of g a p = width_of g (second a) p * width_of g (third a) p
 
--- the numbers of the face across an axis and of the node at a place
-abbrev pub face_at : Counts → AxisName → Place → ℕ
-face_at n a p = face_number n a p.i p.j p.k
-
-abbrev pub node_at : Counts → Place → ℕ
-node_at n p = node_number n p.i p.j p.k
-
 -- the faces of a cell across an axis
 abbrev pub low_face_of : Counts → AxisName → ℕ → ℕ
-low_face_of n a cell = face_at n a (cell_place n cell)
+low_face_of n a cell = face_number n a (cell_place n cell)
 
 abbrev pub high_face_of : Counts → AxisName → ℕ → ℕ
-high_face_of n a cell = face_at n a (ahead a 1 (cell_place n cell))
+high_face_of n a cell = face_number n a (ahead a 1 (cell_place n cell))
 
 -- the edge of a cell along an axis at a corner, and the two nodes that it joins
 abbrev pub edge_of : Counts → AxisName → ℕ → ℕ → Place
 edge_of n a cell corner = corner_edge a corner (cell_place n cell)
 
 abbrev pub low_end_of : Counts → AxisName → ℕ → ℕ → ℕ
-low_end_of n a cell corner = node_at n (edge_of n a cell corner)
+low_end_of n a cell corner = node_number n (edge_of n a cell corner)
 
 abbrev pub high_end_of : Counts → AxisName → ℕ → ℕ → ℕ
-high_end_of n a cell corner = node_at n (ahead a 1 (edge_of n a cell corner))
+high_end_of n a cell corner = node_number n (ahead a 1 (edge_of n a cell corner))
 
 -- a line bounds an interval, from below or from above
 abbrev pub IsBoundOf : ℕ → ℕ → Type 0

@@ -1,8 +1,7 @@
 -- A grid as contracts see it: the lines of its three axes.
 use Rattle.std.specs.Prelude.{ℕ, ◌≤◌, List}
 use Rattle.tb_places.specs.declared.AxisName.{AxisName}
-use Rattle.tb_places.specs.declared.AxisName.TheVariants.{X, Y, Z}
-use Rattle.tb_places.specs.Places.{Counts, cell_count}
+use Rattle.tb_places.specs.Places.{Counts, by_axis, cell_count}
 use Rattle.tb_grid.specs.Axis.{IsAxis, interval_count}
 
 pub record Axes : Type 0 where
@@ -12,19 +11,11 @@ pub record Axes : Type 0 where
 
 -- the lines of the axis of that name
 abbrev pub lines_of : Axes → AxisName → List ℕ
-lines_of g X = g.x
-lines_of g Y = g.y
-lines_of g Z = g.z
-
--- so many cells along x, y and z
-abbrev pub cells_along : ℕ → ℕ → ℕ → Counts
-cells_along x y z X = x
-cells_along x y z Y = y
-cells_along x y z Z = z
+lines_of g = by_axis g.x g.y g.z
 
 -- a grid has a cell between each two neighbouring lines
 abbrev pub counts_of : Axes → Counts
-counts_of g = cells_along (interval_count g.x) (interval_count g.y) (interval_count g.z)
+counts_of g = by_axis (interval_count g.x) (interval_count g.y) (interval_count g.z)
 
 -- a grid has at most so many cells
 abbrev pub most_cells : ℕ

@@ -3,8 +3,7 @@ ghost use Rattle.std.specs.Prelude.{◌≡◌, ◌+◌, ◌*◌, ◌<◌, ◌≤
 ghost use Rattle.tb_grid.specs.Grid.{most_cells};
 
 use crate::ids::{CellId, EdgeId, FaceId, NodeId};
-use crate::place::{GridFace, GridPlace};
-use tb_places::AxisName;
+use tb_places::{AxisName, FacePlace, Place};
 
 /// How many cells a grid has along x, y and z, at most 262,144 together: what its index orders need.
 #[derive(Clone, Copy, Debug)]
@@ -23,7 +22,7 @@ impl CellCounts {
     ghost use Rattle.tb_places.specs.Places.{IsNode, node_count, node_number};
     ghost use Rattle.tb_places.specs.Places.{IsFace, faces_a_layer, face_count, face_number};
     ghost use Rattle.tb_places.specs.Places.{IsEdge, edge_count, edge_number};
-    ghost use Rattle.tb_grid.specs.Views.{along_axes, placed, face_placed};
+    ghost use Rattle.tb_grid.specs.Views.{along_axes};
 
     /// The number of cells along an axis.
     pub fn along(self, axis: AxisName) -> u32
@@ -69,30 +68,30 @@ impl CellCounts {
     }
 
     /// The cell at a place.
-    pub fn cell_number(self, place: GridPlace) -> CellId
-        requires { IsCell (along_axes self) place.i place.j place.k }
-        ensures number { result.0 ≡ cell_number (along_axes self) place.i place.j place.k }
+    pub fn cell_number(self, place: Place) -> CellId
+        requires { IsCell (along_axes self) place }
+        ensures number { result.0 ≡ cell_number (along_axes self) place }
         ensures within { result.0 < cell_count (along_axes self) }
     {
         CellId(place.i + self.x * (place.j + self.y * place.k))
     }
 
     /// The node at a place.
-    pub fn node_number(self, place: GridPlace) -> NodeId
-        requires { IsNode (along_axes self) place.i place.j place.k }
-        ensures number { result.0 ≡ node_number (along_axes self) place.i place.j place.k }
+    pub fn node_number(self, place: Place) -> NodeId
+        requires { IsNode (along_axes self) place }
+        ensures number { result.0 ≡ node_number (along_axes self) place }
         ensures within { result.0 < node_count (along_axes self) }
     {
         NodeId(place.i + (self.x + 1) * (place.j + (self.y + 1) * place.k))
     }
 
     /// The face across an axis at a place.
-    pub fn face_number(self, axis: AxisName, place: GridPlace) -> FaceId
-        requires { IsFace (along_axes self) axis place.i place.j place.k }
-        ensures number { result.0 ≡ face_number (along_axes self) axis place.i place.j place.k }
+    pub fn face_number(self, axis: AxisName, place: Place) -> FaceId
+        requires { IsFace (along_axes self) axis place }
+        ensures number { result.0 ≡ face_number (along_axes self) axis place }
         ensures within { result.0 < face_count (along_axes self) }
     {
-        let GridPlace { i, j, k } = place;
+        let Place { i, j, k } = place;
         let below = k * self.faces_a_layer();
         let z_faces = self.x * self.y;
         let x_faces = (self.x + 1) * self.y;
@@ -104,13 +103,13 @@ impl CellCounts {
     }
 
     /// The edge along an axis at a place.
-    pub fn edge_number(self, axis: AxisName, place: GridPlace) -> EdgeId
-        requires { IsEdge (along_axes self) axis place.i place.j place.k }
+    pub fn edge_number(self, axis: AxisName, place: Place) -> EdgeId
+        requires { IsEdge (along_axes self) axis place }
         ensures axis { result.0 ≡ axis }
-        ensures number { result.1 ≡ edge_number (along_axes self) axis place.i place.j place.k }
+        ensures number { result.1 ≡ edge_number (along_axes self) axis place }
         ensures within { result.1 < edge_count (along_axes self) axis }
     {
-        let GridPlace { i, j, k } = place;
+        let Place { i, j, k } = place;
         match axis {
             AxisName::X => EdgeId(axis, i + self.x * (j + (self.y + 1) * k)),
             AxisName::Y => EdgeId(axis, i + (self.x + 1) * (j + self.y * k)),
@@ -155,55 +154,55 @@ impl CellCounts {
     }
 
     /// The place of a cell.
-    pub fn cell_place(self, cell: CellId) -> GridPlace
+    pub fn cell_place(self, cell: CellId) -> Place
         requires { cell.0 < cell_count (along_axes self) }
-        ensures place { placed result ≡ cell_place (along_axes self) cell.0 }
-        ensures within { IsCell (along_axes self) result.i result.j result.k }
+        ensures place { result ≡ cell_place (along_axes self) cell.0 }
+        ensures within { IsCell (along_axes self) result }
     {
-        GridPlace::by_rows(self.x, self.y, cell.0)
+        Place::by_rows(self.x, self.y, cell.0)
     }
 
     /// The place of a node.
-    pub fn node_place(self, node: NodeId) -> GridPlace
+    pub fn node_place(self, node: NodeId) -> Place
         requires { node.0 < node_count (along_axes self) }
-        ensures place { placed result ≡ node_place (along_axes self) node.0 }
-        ensures within { IsNode (along_axes self) result.i result.j result.k }
+        ensures place { result ≡ node_place (along_axes self) node.0 }
+        ensures within { IsNode (along_axes self) result }
     {
-        GridPlace::by_rows(self.x + 1, self.y + 1, node.0)
+        Place::by_rows(self.x + 1, self.y + 1, node.0)
     }
 
     /// The place of an edge.
-    pub fn edge_place(self, edge: EdgeId) -> GridPlace
+    pub fn edge_place(self, edge: EdgeId) -> Place
         requires { edge.1 < edge_count (along_axes self) edge.0 }
-        ensures place { placed result ≡ edge_place (along_axes self) edge.0 edge.1 }
-        ensures within { IsEdge (along_axes self) edge.0 result.i result.j result.k }
+        ensures place { result ≡ edge_place (along_axes self) edge.0 edge.1 }
+        ensures within { IsEdge (along_axes self) edge.0 result }
     {
         match edge.0 {
-            AxisName::X => GridPlace::by_rows(self.x, self.y + 1, edge.1),
-            AxisName::Y => GridPlace::by_rows(self.x + 1, self.y, edge.1),
-            AxisName::Z => GridPlace::by_rows(self.x + 1, self.y + 1, edge.1),
+            AxisName::X => Place::by_rows(self.x, self.y + 1, edge.1),
+            AxisName::Y => Place::by_rows(self.x + 1, self.y, edge.1),
+            AxisName::Z => Place::by_rows(self.x + 1, self.y + 1, edge.1),
         }
     }
 
     /// The place of a face, with the axis that it stands across.
-    pub fn face_place(self, face: FaceId) -> GridFace
+    pub fn face_place(self, face: FaceId) -> FacePlace
         requires { face.0 < face_count (along_axes self) }
-        ensures place { face_placed result ≡ face_place (along_axes self) face.0 }
-        ensures within { IsFace (along_axes self) result.axis result.place.i result.place.j result.place.k }
+        ensures place { result ≡ face_place (along_axes self) face.0 }
+        ensures within { IsFace (along_axes self) result.axis result.place }
     {
         let layer = self.faces_a_layer();
         let k = face.0 / layer;
         let in_layer = face.0 % layer;
         let z_faces = self.x * self.y;
         if in_layer < z_faces {
-            return GridFace::by_rows(AxisName::Z, self.x, k, in_layer);
+            return FacePlace::by_rows(AxisName::Z, self.x, k, in_layer);
         }
         let side = in_layer - z_faces;
         let x_faces = (self.x + 1) * self.y;
         if side < x_faces {
-            return GridFace::by_rows(AxisName::X, self.x + 1, k, side);
+            return FacePlace::by_rows(AxisName::X, self.x + 1, k, side);
         }
-        GridFace::by_rows(AxisName::Y, self.x, k, side - x_faces)
+        FacePlace::by_rows(AxisName::Y, self.x, k, side - x_faces)
     }
 
     /// The number of faces from one z-line up to the next, those at the lower one among them.

@@ -13,7 +13,8 @@ ghost use Rattle.tb_places.specs.Cuts.{cut_counts, in_both, moved};
 ghost use Rattle.tb_places.specs.Inverse.{cell_place, node_place, face_place, edge_place};
 ghost use Rattle.tb_places.specs.Places.{Counts, cell_count, node_count, face_count, edge_count};
 ghost use Rattle.tb_grid.specs.Cuts.{moved_place, moved_cell, moved_node, moved_face, moved_edge};
-ghost use Rattle.tb_grid.specs.Direction.{ahead, index_along, low_face_of, high_face_of};
+ghost use Rattle.tb_places.specs.Along.{ahead, index_along};
+ghost use Rattle.tb_grid.specs.Direction.{low_face_of, high_face_of};
 
 /// What is listed along an axis stands where its index has moved to, and the interval that is cut has it twice.
 pub fn lists_move_at_a_cut()

@@ -6,9 +6,8 @@ ghost use Rattle.tb_grid.specs.Grid.{IsGrid, counts_of, lines_of, most_cells};
 
 use crate::axis::Axis;
 use crate::counts::CellCounts;
-use crate::place::GridPlace;
 use std::marker::Model;
-use tb_places::AxisName;
+use tb_places::{AxisName, Place};
 
 const MOST_CELLS: u64 = 262_144;
 
@@ -37,8 +36,8 @@ impl Model for Grid {
 }
 
 impl Grid {
-    ghost use Rattle.tb_grid.specs.Direction.{index_along, width_of};
-    ghost use Rattle.tb_grid.specs.Views.{placed};
+    ghost use Rattle.tb_places.specs.Along.{index_along};
+    ghost use Rattle.tb_grid.specs.Direction.{width_of};
 
     /// The grid with these axes. It takes no memory.
     ///
@@ -117,9 +116,9 @@ impl Grid {
     }
 
     /// The width along an axis of the cells at a place, in 0.1 mm, at least 1.
-    pub fn cell_width(&self, axis: AxisName, place: GridPlace) -> u32
-        requires { index_along axis (placed place) < counts_of self.now axis }
-        ensures width { result ≡ width_of self.now axis (placed place) }
+    pub fn cell_width(&self, axis: AxisName, place: Place) -> u32
+        requires { index_along axis place < counts_of self.now axis }
+        ensures width { result ≡ width_of self.now axis place }
         ensures some { 0 < result }
     {
         self.axis(axis).width(place.along(axis))

@@ -6,11 +6,13 @@
 
 ghost use Rattle.std.specs.Prelude.{◌≡◌, ◌+◌, ◌*◌, ◌<◌, ℕ, List};
 ghost use Rattle.tb_places.specs.declared.AxisName.{AxisName};
-ghost use Rattle.tb_places.specs.Along.{cell_stride, face_stride, node_stride, place_along};
-ghost use Rattle.tb_places.specs.Inverse.{Place, cell_place};
+ghost use Rattle.tb_places.specs.Along.{cell_stride, face_stride, node_stride};
+ghost use Rattle.tb_places.specs.declared.Place.{Place};
+ghost use Rattle.tb_places.specs.Inverse.{cell_place};
 ghost use Rattle.tb_places.specs.Places.{Counts, IsEdge, cell_count, node_count, second, third};
 ghost use Rattle.tb_grid.specs.Axis.{AreLinesThrough};
-ghost use Rattle.tb_grid.specs.Direction.{IsEdgeOf, ahead, area_of, edge_of, high_end_of, high_face_of, index_along, low_end_of, low_face_of, width_of};
+ghost use Rattle.tb_grid.specs.Direction.{IsEdgeOf, area_of, edge_of, high_end_of, high_face_of, low_end_of, low_face_of, width_of};
+ghost use Rattle.tb_places.specs.Along.{ahead, index_along};
 ghost use Rattle.tb_grid.specs.Grid.{Axes};
 
 /// There is one list of lines through coordinates.
@@ -35,7 +37,7 @@ pub fn next_cells_share_a_face()
 /// the higher.
 pub fn corners_are_the_edges_of_a_cell()
     ensures edges { (n : Counts) (a : AxisName) (c corner : ℕ) → c < cell_count n → corner < 4
-        → let e = edge_of n a c corner in IsEdge n a e.i e.j e.k }
+        → IsEdge n a (edge_of n a c corner) }
     ensures of_the_cell { (n : Counts) (a : AxisName) (c corner : ℕ) → corner < 4
         → IsEdgeOf a (cell_place n c) (edge_of n a c corner) }
     ensures all { (n : Counts) (a : AxisName) (c : ℕ) (e : Place) → IsEdgeOf a (cell_place n c) e
@@ -53,12 +55,4 @@ pub fn corners_are_the_edges_of_a_cell()
 /// The volume of a cell is its width times its cross-section, along each axis the same.
 pub fn volumes_agree()
     ensures { (g : Axes) (a b : AxisName) (p : Place) → width_of g a p * area_of g a p ≡ width_of g b p * area_of g b p }
-{}
-
-/// How a place on a line of cells along an axis is seen along that axis and the two others.
-pub fn places_stand_on_lines()
-    ensures along { (a : AxisName) (i j k : ℕ) → index_along a (place_along a i j k) ≡ i }
-    ensures second { (a : AxisName) (i j k : ℕ) → index_along (second a) (place_along a i j k) ≡ j }
-    ensures third { (a : AxisName) (i j k : ℕ) → index_along (third a) (place_along a i j k) ≡ k }
-    ensures ahead { (a : AxisName) (by i j k : ℕ) → ahead a by (place_along a i j k) ≡ place_along a (i + by) j k }
 {}

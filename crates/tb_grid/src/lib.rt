@@ -16,7 +16,6 @@ mod level;
 #[cfg(test)]
 mod level_tests;
 mod levels;
-mod place;
 mod sides;
 #[cfg(test)]
 mod tests;
@@ -28,5 +27,4 @@ pub use grid::{Grid, TooManyCells};
 pub use ids::{CellId, EdgeId, FaceId, NodeId};
 pub use level::{GridFault, axes_have_one_level_grid, graded};
 pub use levels::{Grading, GridTooLarge, LevelFault, level_grid};
-pub use place::{GridFace, GridPlace, other_axes};
-pub use tb_places::AxisName;
+pub use tb_places::{AxisName, FacePlace, Place, other_axes};

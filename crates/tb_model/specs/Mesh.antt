@@ -5,6 +5,8 @@
 use Rattle.std.specs.Prelude.{ℕ, zero, suc, Option, Some, None, true, false, nat_lt, if◌then◌else◌}
 use Rattle.tb_math.specs.Rational.{ℚ, ◌*ℚ◌}
 use Rattle.tb_places.specs.declared.AxisName.{AxisName}
+use Rattle.tb_places.specs.declared.Place.{Place}
+use Rattle.tb_places.specs.Along.{index_along}
 use Rattle.tb_places.specs.Places.{second, third, along}
 use Rattle.tb_detail.specs.declared.Content.{Content}
 use Rattle.tb_detail.specs.declared.Content.TheVariants.{Solid, Air}
@@ -40,6 +42,10 @@ kind_between _ _ = Idle
 -- the kind of the face across an axis, its index along that axis first
 abbrev pub kind : Mesh → AxisName → ℕ → ℕ → ℕ → FaceKind
 kind m a i j k = kind_between (below (λ n. along a m.occupant n j k) i) (above (m.cells a) (λ n. along a m.occupant n j k) i)
+
+-- the kind of the face across an axis at a place
+abbrev pub kind_at : Mesh → AxisName → Place → FaceKind
+kind_at m a p = kind m a (index_along a p) (index_along (second a) p) (index_along (third a) p)
 
 -- the area of the cross-section of a line of cells along an axis, in 10⁻⁸ m²
 abbrev pub cross_section : Mesh → AxisName → ℕ → ℕ → ℚ

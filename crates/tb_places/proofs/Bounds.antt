@@ -3,6 +3,7 @@ use Rattle.std.proofs.Common.{◌≡◌, ℕ, ◌+◌, ◌*◌, ◌<◌, ◌≤�
 use Rattle.std.proofs.lemmas.Nat.{mul-le}
 use Rattle.tb_places.specs.declared.AxisName.{AxisName}
 use Rattle.tb_places.specs.declared.AxisName.TheVariants.{X, Y, Z}
+use Rattle.tb_places.specs.declared.Place.{Place}
 use Rattle.tb_places.proofs.Nodes.{node_number_below}
 use Rattle.tb_places.proofs.Faces.{face_number_below}
 use Rattle.tb_places.proofs.Edges.{edge_number_below}
@@ -63,29 +64,29 @@ layer_below n some =
 
 -- ---- numbers against the number of cells, for the arithmetic of programs
 
-pub node_number_few : (n : Counts) (i j k : ℕ) → ((a : AxisName) → 0 < n a) → IsNode n i j k →
-    node_number n i j k < 8 * cell_count n
-node_number_few n i j k some node =
-    let below = node_number_below n i j k node in let few = node_count_below n some in omega arith
+pub node_number_few : (n : Counts) (p : Place) → ((a : AxisName) → 0 < n a) → IsNode n p →
+    node_number n p < 8 * cell_count n
+node_number_few n p some node =
+    let below = node_number_below n p node in let few = node_count_below n some in omega arith
 
-pub face_number_few : (n : Counts) (a : AxisName) (i j k : ℕ) → ((b : AxisName) → 0 < n b) → IsFace n a i j k →
-    face_number n a i j k < 6 * cell_count n
-face_number_few n a i j k some face =
-    let below = face_number_below n a i j k face in let few = face_count_below n some in omega arith
+pub face_number_few : (n : Counts) (a : AxisName) (p : Place) → ((b : AxisName) → 0 < n b) → IsFace n a p →
+    face_number n a p < 6 * cell_count n
+face_number_few n a p some face =
+    let below = face_number_below n a p face in let few = face_count_below n some in omega arith
 
-pub edge_number_few : (n : Counts) (a : AxisName) (i j k : ℕ) → ((b : AxisName) → 0 < n b) → IsEdge n a i j k →
-    edge_number n a i j k < 4 * cell_count n
-edge_number_few n a i j k some edge =
-    let below = edge_number_below n a i j k edge in let few = edge_count_below n a some in omega arith
+pub edge_number_few : (n : Counts) (a : AxisName) (p : Place) → ((b : AxisName) → 0 < n b) → IsEdge n a p →
+    edge_number n a p < 4 * cell_count n
+edge_number_few n a p some edge =
+    let below = edge_number_below n a p edge in let few = edge_count_below n a some in omega arith
 
 pub layer_few : (n : Counts) → ((a : AxisName) → 0 < n a) → faces_a_layer n ≤ 6 * cell_count n
 layer_few n some = let layer = layer_below n (some Z) in let few = face_count_below n some in omega arith
 
 -- the faces of the layers below a face have lower numbers
-pub layers_below_number : (n : Counts) (a : AxisName) (i j k : ℕ) → k * faces_a_layer n ≤ face_number n a i j k
-layers_below_number n X i j k = omega arith
-layers_below_number n Y i j k = omega arith
-layers_below_number n Z i j k = omega arith
+pub layers_below_number : (n : Counts) (a : AxisName) (p : Place) → p.k * faces_a_layer n ≤ face_number n a p
+layers_below_number n X p = omega arith
+layers_below_number n Y p = omega arith
+layers_below_number n Z p = omega arith
 
 -- ---- the counts against one another
 

@@ -5,8 +5,10 @@ use Rattle.std.proofs.lemmas.Bool.{cases_lt, cond-true, cond-false, cond_both, l
 use Rattle.std.proofs.lemmas.Nat.{mul-add-lt, div-mul-add, mod-mul-add, div-add-mod', div_below, mod_below, mul-le}
 use Rattle.tb_places.specs.declared.AxisName.{AxisName}
 use Rattle.tb_places.specs.declared.AxisName.TheVariants.{X, Y, Z}
-use Rattle.tb_places.specs.Places.{Counts, IsFace, faces_a_layer, face_count, face_number}
-use Rattle.tb_places.specs.Inverse.{Place, FacePlace, face_place, face_in_layer, side_in_layer, face_by_rows}
+use Rattle.tb_places.specs.declared.FacePlace.{FacePlace}
+use Rattle.tb_places.specs.declared.Place.{Place}
+use Rattle.tb_places.specs.Places.{Counts, IsFace, faces_a_layer, face_count, face_number, place_at}
+use Rattle.tb_places.specs.Inverse.{face_place, face_in_layer, side_in_layer, face_by_rows}
 use Rattle.tb_places.proofs.Rows.{row_within}
 
 -- ---- layers
@@ -55,30 +57,29 @@ y_face_in_layer n i j on_x on_y = mul-add-lt j (n X) i (n Y + 1) (omega arith) o
 pub z_face_in_layer : (n : Counts) (i j : ℕ) → i < n X → j < n Y → j * n X + i < n X * n Y
 z_face_in_layer n i j on_x on_y = mul-add-lt j (n X) i (n Y) on_y on_x
 
-pub face_number_below : (n : Counts) (a : AxisName) (i j k : ℕ) → IsFace n a i j k →
-    face_number n a i j k < face_count n
-face_number_below n X i j k (on_x, on_y, on_z) =
-    let row = x_face_in_layer n i j on_x on_y in
-    let below = layer_number_below (faces_a_layer n) (n Z) k (n X * n Y + (j * (n X + 1) + i)) on_z (omega arith) in
+pub face_number_below : (n : Counts) (a : AxisName) (p : Place) → IsFace n a p → face_number n a p < face_count n
+face_number_below n X p (on_x, on_y, on_z) =
+    let row = x_face_in_layer n p.i p.j on_x on_y in
+    let below = layer_number_below (faces_a_layer n) (n Z) p.k (n X * n Y + (p.j * (n X + 1) + p.i)) on_z (omega arith) in
     omega arith
-face_number_below n Y i j k (on_x, on_y, on_z) =
-    let row = y_face_in_layer n i j on_x on_y in
-    let below = layer_number_below (faces_a_layer n) (n Z) k (n X * n Y + ((n X + 1) * n Y + (j * n X + i))) on_z (omega arith) in
+face_number_below n Y p (on_x, on_y, on_z) =
+    let row = y_face_in_layer n p.i p.j on_x on_y in
+    let below = layer_number_below (faces_a_layer n) (n Z) p.k (n X * n Y + ((n X + 1) * n Y + (p.j * n X + p.i))) on_z (omega arith) in
     omega arith
-face_number_below n Z i j k (on_x, on_y, on_z) =
-    last_number_below (faces_a_layer n) (n X * n Y) (n Z) k (j * n X + i) on_z (z_face_in_layer n i j on_x on_y)
+face_number_below n Z p (on_x, on_y, on_z) =
+    last_number_below (faces_a_layer n) (n X * n Y) (n Z) p.k (p.j * n X + p.i) on_z (z_face_in_layer n p.i p.j on_x on_y)
 
 -- ---- and back
 
--- a place of a face
-abbrev at : AxisName → ℕ → ℕ → ℕ → FacePlace
-at a i j k = record { axis = a; place = record { i = i; j = j; k = k } }
+-- a face across an axis
+abbrev face : AxisName → Place → FacePlace
+face a p = record { axis = a; place = p }
 
-face_of_row : (a : AxisName) (w i j k : ℕ) → i < w → face_by_rows a w k (j * w + i) ≡ at a i j k
-face_of_row a w i j k in_row =
-    let first : (j * w + i) % w ≡ i = mod-mul-add j w i in_row in
-    let row : (j * w + i) / w ≡ j = div-mul-add j w i in_row in
-    ap (λ (m : ℕ). at a m ((j * w + i) / w) k) first ∙ ap (λ (m : ℕ). at a i m k) row
+face_of_row : (a : AxisName) (w : ℕ) (p : Place) → p.i < w → face_by_rows a w p.k (p.j * w + p.i) ≡ face a p
+face_of_row a w p in_row =
+    let first : (p.j * w + p.i) % w ≡ p.i = mod-mul-add p.j w p.i in_row in
+    let row : (p.j * w + p.i) / w ≡ p.j = div-mul-add p.j w p.i in_row in
+    ap (λ (m : ℕ). face a (place_at m ((p.j * w + p.i) / w) p.k)) first ∙ ap (λ (m : ℕ). face a (place_at p.i m p.k)) row
 
 -- number r of a layer among the z-faces, the x-faces and the y-faces
 z_face_of_layer : (n : Counts) (k r : ℕ) → r < n X * n Y → face_in_layer n k r ≡ face_by_rows Z (n X) k r
@@ -109,36 +110,33 @@ face_of_layer n k r in_layer =
     let rest : (k * l + r) % l ≡ r = mod-mul-add k l r in_layer in
     ap (λ (m : ℕ). face_in_layer n m ((k * l + r) % l)) layer ∙ ap (λ (m : ℕ). face_in_layer n k m) rest
 
-pub face_place_of_number : (n : Counts) (a : AxisName) (i j k : ℕ) → IsFace n a i j k →
-    face_place n (face_number n a i j k) ≡ record { axis = a; place = record { i = i; j = j; k = k } }
-face_place_of_number n X i j k (on_x, on_y, on_z) =
-    let in_layer = x_face_in_layer n i j on_x on_y in
-    let r = j * (n X + 1) + i in
-    face_of_layer n k (n X * n Y + r) (omega arith) ∙ side_of_layer n k r ∙ x_face_of_side n k r in_layer
-    ∙ face_of_row X (n X + 1) i j k (omega arith)
-face_place_of_number n Y i j k (on_x, on_y, on_z) =
-    let in_layer = y_face_in_layer n i j on_x on_y in
-    let r = j * n X + i in
-    face_of_layer n k (n X * n Y + ((n X + 1) * n Y + r)) (omega arith) ∙ side_of_layer n k ((n X + 1) * n Y + r)
-    ∙ y_face_of_side n k r ∙ face_of_row Y (n X) i j k on_x
-face_place_of_number n Z i j k (on_x, on_y, on_z) =
-    let in_layer = z_face_in_layer n i j on_x on_y in
-    let r = j * n X + i in
-    face_of_layer n k r (omega arith) ∙ z_face_of_layer n k r in_layer ∙ face_of_row Z (n X) i j k on_x
+place_of_number : (n : Counts) (a : AxisName) (p : Place) → IsFace n a p → face_place n (face_number n a p) ≡ face a p
+place_of_number n X p (on_x, on_y, on_z) =
+    let in_layer = x_face_in_layer n p.i p.j on_x on_y in
+    let r = p.j * (n X + 1) + p.i in
+    face_of_layer n p.k (n X * n Y + r) (omega arith) ∙ side_of_layer n p.k r ∙ x_face_of_side n p.k r in_layer
+    ∙ face_of_row X (n X + 1) p (omega arith)
+place_of_number n Y p (on_x, on_y, on_z) =
+    let in_layer = y_face_in_layer n p.i p.j on_x on_y in
+    let r = p.j * n X + p.i in
+    face_of_layer n p.k (n X * n Y + ((n X + 1) * n Y + r)) (omega arith) ∙ side_of_layer n p.k ((n X + 1) * n Y + r)
+    ∙ y_face_of_side n p.k r ∙ face_of_row Y (n X) p on_x
+place_of_number n Z p (on_x, on_y, on_z) =
+    let in_layer = z_face_in_layer n p.i p.j on_x on_y in
+    let r = p.j * n X + p.i in
+    face_of_layer n p.k r (omega arith) ∙ z_face_of_layer n p.k r in_layer ∙ face_of_row Z (n X) p on_x
+
+pub face_place_of_number : (n : Counts) (f : FacePlace) → IsFace n f.axis f.place →
+    face_place n (face_number n f.axis f.place) ≡ f
+face_place_of_number n f within = place_of_number n f.axis f.place within
 
 -- two faces with one number stand across one axis, and are one face
-pub face_number_apart : (n : Counts) (a b : AxisName) (i j k p q r : ℕ) → IsFace n a i j k → IsFace n b p q r →
-    face_number n a i j k ≡ face_number n b p q r → (a ≡ b) × (i ≡ p) × (j ≡ q) × (k ≡ r)
-face_number_apart n a b i j k p q r first second same =
-    let one : at a i j k ≡ at b p q r =
-    sym (face_place_of_number n a i j k first) ∙ ap (λ (m : ℕ). face_place n m) same
-    ∙ face_place_of_number n b p q r second in
-    let place = ap (λ (t : FacePlace). t.place) one in (
-      ap (λ (t : FacePlace). t.axis) one,
-      ap (λ (t : Place). t.i) place,
-      ap (λ (t : Place). t.j) place,
-      ap (λ (t : Place). t.k) place,
-    )
+pub face_number_apart : (n : Counts) (a b : AxisName) (p q : Place) → IsFace n a p → IsFace n b q →
+    face_number n a p ≡ face_number n b q → (a ≡ b) × (p ≡ q)
+face_number_apart n a b p q first second same =
+    let one : face a p ≡ face b q =
+    sym (place_of_number n a p first) ∙ ap (λ (m : ℕ). face_place n m) same ∙ place_of_number n b q second in
+    (ap (λ (t : FacePlace). t.axis) one, ap (λ (t : FacePlace). t.place) one)
 
 -- ---- the three cases of a face's place, as a program tells them apart
 
@@ -165,8 +163,8 @@ face_place_y n f t split = face_place_side n f ((n X + 1) * n Y + t) split ∙ y
 
 -- the face at t has the number f
 record Has (n : Counts) (f : ℕ) (t : FacePlace) : Type 0 where
-  within : IsFace n t.axis t.place.i t.place.j t.place.k
-  number : face_number n t.axis t.place.i t.place.j t.place.k ≡ f
+  within : IsFace n t.axis t.place
+  number : face_number n t.axis t.place ≡ f
 
 z_face_has : (n : Counts) (k r : ℕ) → k ≤ n Z → r < n X * n Y →
     Has n (k * faces_a_layer n + r) (face_by_rows Z (n X) k r)
@@ -230,9 +228,9 @@ face_has n f below =
     subst (λ (m : ℕ). Has n m (face_place n f)) split (layer_has n (f / l) (f % l) stands.0 stands.1)
 
 pub face_number_of_place : (n : Counts) (f : ℕ) → f < face_count n →
-    let t = face_place n f in let p = t.place in face_number n t.axis p.i p.j p.k ≡ f
+    let t = face_place n f in face_number n t.axis t.place ≡ f
 face_number_of_place n f below = (face_has n f below).number
 
 pub face_place_within : (n : Counts) (f : ℕ) → f < face_count n →
-    let t = face_place n f in let p = t.place in IsFace n t.axis p.i p.j p.k
+    let t = face_place n f in IsFace n t.axis t.place
 face_place_within n f below = (face_has n f below).within

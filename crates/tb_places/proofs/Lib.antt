@@ -1,7 +1,9 @@
 pub mod Bounds
+pub mod ByAxis
 pub mod Cells
 pub mod Edges
 pub mod Faces
+pub mod Firsts
 pub mod Meeting
 pub mod Nodes
 pub mod Rows

@@ -2,22 +2,13 @@
 use Rattle.std.specs.Prelude.{ℕ, ◌+◌, ◌-◌, ◌*◌, ◌/◌, ◌%◌, nat_lt, if◌then◌else◌}
 use Rattle.tb_places.specs.declared.AxisName.{AxisName}
 use Rattle.tb_places.specs.declared.AxisName.TheVariants.{X, Y, Z}
-use Rattle.tb_places.specs.Places.{Counts, faces_a_layer}
-
--- three indexes from 0, along x, y and z
-pub record Place : Type 0 where
-  pub i : ℕ
-  pub j : ℕ
-  pub k : ℕ
-
--- a face: the axis that it stands across, and its place
-pub record FacePlace : Type 0 where
-  pub axis : AxisName
-  pub place : Place
+use Rattle.tb_places.specs.declared.Place.{Place}
+use Rattle.tb_places.specs.declared.FacePlace.{FacePlace}
+use Rattle.tb_places.specs.Places.{Counts, faces_a_layer, place_at}
 
 -- the place of a number that counts along x first, a to the row, and then along y, b rows to the layer
 abbrev pub place_by_rows : ℕ → ℕ → ℕ → Place
-place_by_rows a b m = record { i = m % a; j = m / a % b; k = m / a / b }
+place_by_rows a b m = place_at (m % a) (m / a % b) (m / a / b)
 
 abbrev pub cell_place : Counts → ℕ → Place
 cell_place n c = place_by_rows (n X) (n Y) c
@@ -32,7 +23,7 @@ edge_place n Z e = place_by_rows (n X + 1) (n Y + 1) e
 
 -- the face that is number r among those across one axis in layer k, a of them to the row
 abbrev pub face_by_rows : AxisName → ℕ → ℕ → ℕ → FacePlace
-face_by_rows axis a k r = record { axis = axis; place = record { i = r % a; j = r / a; k = k } }
+face_by_rows axis a k r = record { axis = axis; place = place_at (r % a) (r / a) k }
 
 -- number r among the x-faces and y-faces of layer k, the x-faces first
 abbrev pub side_in_layer : Counts → ℕ → ℕ → FacePlace

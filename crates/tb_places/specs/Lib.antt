@@ -1,4 +1,5 @@
 pub mod Along
+pub mod Cuts
 pub mod Inverse
 pub mod Places
-pub mod Cuts
+pub mod Ranges

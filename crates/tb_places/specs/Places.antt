@@ -4,6 +4,13 @@
 use Rattle.std.specs.Prelude.{ℕ, ◌+◌, ◌*◌, ◌<◌, ◌≤◌}
 use Rattle.tb_places.specs.declared.AxisName.{AxisName}
 use Rattle.tb_places.specs.declared.AxisName.TheVariants.{X, Y, Z}
+use Rattle.tb_places.specs.declared.Place.{Place}
+
+-- of three things, that of an axis
+abbrev pub by_axis : {A : Type 0} → A → A → A → AxisName → A
+by_axis x y z X = x
+by_axis x y z Y = y
+by_axis x y z Z = z
 
 -- how many cells a grid has along each axis
 abbrev pub Counts : Type 0
@@ -26,37 +33,41 @@ along X f i j k = f i j k
 along Y f i j k = f j i k
 along Z f i j k = f j k i
 
+-- the place (i,j,k)
+abbrev pub place_at : ℕ → ℕ → ℕ → Place
+place_at i j k = record { i = i; j = j; k = k }
+
 -- the cell (i,j,k) lies between the lines i and i+1, j and j+1, k and k+1
-abbrev pub IsCell : Counts → ℕ → ℕ → ℕ → Type 0
-IsCell n i j k = (i < n X) × (j < n Y) × (k < n Z)
+abbrev pub IsCell : Counts → Place → Type 0
+IsCell n p = (p.i < n X) × (p.j < n Y) × (p.k < n Z)
 
 -- the node (i,j,k) stands at the lines i, j and k
-abbrev pub IsNode : Counts → ℕ → ℕ → ℕ → Type 0
-IsNode n i j k = (i ≤ n X) × (j ≤ n Y) × (k ≤ n Z)
+abbrev pub IsNode : Counts → Place → Type 0
+IsNode n p = (p.i ≤ n X) × (p.j ≤ n Y) × (p.k ≤ n Z)
 
 -- a face across an axis stands at a line of that axis and spans an interval of the other two
-abbrev pub IsFace : Counts → AxisName → ℕ → ℕ → ℕ → Type 0
-IsFace n X i j k = (i ≤ n X) × (j < n Y) × (k < n Z)
-IsFace n Y i j k = (i < n X) × (j ≤ n Y) × (k < n Z)
-IsFace n Z i j k = (i < n X) × (j < n Y) × (k ≤ n Z)
+abbrev pub IsFace : Counts → AxisName → Place → Type 0
+IsFace n X p = (p.i ≤ n X) × (p.j < n Y) × (p.k < n Z)
+IsFace n Y p = (p.i < n X) × (p.j ≤ n Y) × (p.k < n Z)
+IsFace n Z p = (p.i < n X) × (p.j < n Y) × (p.k ≤ n Z)
 
 -- an edge along an axis spans an interval of that axis and stands at lines of the other two
-abbrev pub IsEdge : Counts → AxisName → ℕ → ℕ → ℕ → Type 0
-IsEdge n X i j k = (i < n X) × (j ≤ n Y) × (k ≤ n Z)
-IsEdge n Y i j k = (i ≤ n X) × (j < n Y) × (k ≤ n Z)
-IsEdge n Z i j k = (i ≤ n X) × (j ≤ n Y) × (k < n Z)
+abbrev pub IsEdge : Counts → AxisName → Place → Type 0
+IsEdge n X p = (p.i < n X) × (p.j ≤ n Y) × (p.k ≤ n Z)
+IsEdge n Y p = (p.i ≤ n X) × (p.j < n Y) × (p.k ≤ n Z)
+IsEdge n Z p = (p.i ≤ n X) × (p.j ≤ n Y) × (p.k < n Z)
 
 abbrev pub cell_count : Counts → ℕ
 cell_count n = n X * (n Y * n Z)
 
-abbrev pub cell_number : Counts → ℕ → ℕ → ℕ → ℕ
-cell_number n i j k = i + n X * (j + n Y * k)
+abbrev pub cell_number : Counts → Place → ℕ
+cell_number n p = p.i + n X * (p.j + n Y * p.k)
 
 abbrev pub node_count : Counts → ℕ
 node_count n = (n X + 1) * ((n Y + 1) * (n Z + 1))
 
-abbrev pub node_number : Counts → ℕ → ℕ → ℕ → ℕ
-node_number n i j k = i + (n X + 1) * (j + (n Y + 1) * k)
+abbrev pub node_number : Counts → Place → ℕ
+node_number n p = p.i + (n X + 1) * (p.j + (n Y + 1) * p.k)
 
 -- the faces from one z-line up to the next: z-faces at the line, then x-faces and y-faces of the layer above it
 abbrev pub faces_a_layer : Counts → ℕ
@@ -65,10 +76,10 @@ faces_a_layer n = n X * n Y + ((n X + 1) * n Y + n X * (n Y + 1))
 abbrev pub face_count : Counts → ℕ
 face_count n = n Z * faces_a_layer n + n X * n Y
 
-abbrev pub face_number : Counts → AxisName → ℕ → ℕ → ℕ → ℕ
-face_number n X i j k = k * faces_a_layer n + (n X * n Y + (j * (n X + 1) + i))
-face_number n Y i j k = k * faces_a_layer n + (n X * n Y + ((n X + 1) * n Y + (j * n X + i)))
-face_number n Z i j k = k * faces_a_layer n + (j * n X + i)
+abbrev pub face_number : Counts → AxisName → Place → ℕ
+face_number n X p = p.k * faces_a_layer n + (n X * n Y + (p.j * (n X + 1) + p.i))
+face_number n Y p = p.k * faces_a_layer n + (n X * n Y + ((n X + 1) * n Y + (p.j * n X + p.i)))
+face_number n Z p = p.k * faces_a_layer n + (p.j * n X + p.i)
 
 -- edges are numbered for each axis by itself
 abbrev pub edge_count : Counts → AxisName → ℕ
@@ -76,7 +87,7 @@ edge_count n X = n X * ((n Y + 1) * (n Z + 1))
 edge_count n Y = (n X + 1) * (n Y * (n Z + 1))
 edge_count n Z = (n X + 1) * ((n Y + 1) * n Z)
 
-abbrev pub edge_number : Counts → AxisName → ℕ → ℕ → ℕ → ℕ
-edge_number n X i j k = i + n X * (j + (n Y + 1) * k)
-edge_number n Y i j k = i + (n X + 1) * (j + n Y * k)
-edge_number n Z i j k = i + (n X + 1) * (j + (n Y + 1) * k)
+abbrev pub edge_number : Counts → AxisName → Place → ℕ
+edge_number n X p = p.i + n X * (p.j + (n Y + 1) * p.k)
+edge_number n Y p = p.i + (n X + 1) * (p.j + n Y * p.k)
+edge_number n Z p = p.i + (n X + 1) * (p.j + (n Y + 1) * p.k)

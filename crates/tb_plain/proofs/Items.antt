@@ -21,6 +21,7 @@ use Rattle.tb_plain.specs.Plain.{IsPlain, IsCellAt, IsFaceAt, IsNodeAt, lines_of
 use Rattle.tb_plain.specs.Values.{IsTemperatures, IsFlows, flow_at, temperature_at}
 use Rattle.tb_plain.specs.Items.{width_of, temperature_on, rise_on, level, flow_on, field_cell_at, field_face_at, flux_cell_at, flux_face_at}
 use Rattle.tb_plain.proofs.Lines.{line_behind, line_near, width_is, width_positive}
+use Rattle.tb_places.specs.Places.{place_at}
 use Rattle.tb_plain.proofs.Sites.{place_of, read_at, node_at, face_at}
 
 -- ---- limits
@@ -43,10 +44,10 @@ temperature_fits : (g : PlainGrid) (values : List ℤ) (at : Site) → IsTempera
 temperature_fits g values at h l =
     let n = (mesh_of g).cells in
     let p = place_of at in
-    let below : node_number n p.i p.j p.k < length values = omega (arith, node_number_below n p.i p.j p.k (node_at n at p refl l), h.count) in
-    let here : IsLevel (get_or values (node_number n p.i p.j p.k) (pos 0)) = record {
-      least = All-get_or (λ v. pos 0 ≤ℤ v) values (node_number n p.i p.j p.k) (pos 0) below h.least;
-      most = All-get_or (λ v. v ≤ℤ pos (10 ^ 8)) values (node_number n p.i p.j p.k) (pos 0) below h.most;
+    let below : node_number n (place_at p.i p.j p.k) < length values = omega (arith, node_number_below n (place_at p.i p.j p.k) (node_at n at p refl l), h.count) in
+    let here : IsLevel (get_or values (node_number n (place_at p.i p.j p.k)) (pos 0)) = record {
+      least = All-get_or (λ v. pos 0 ≤ℤ v) values (node_number n (place_at p.i p.j p.k)) (pos 0) below h.least;
+      most = All-get_or (λ v. v ≤ℤ pos (10 ^ 8)) values (node_number n (place_at p.i p.j p.k)) (pos 0) below h.most;
     } in
     subst (λ (z : ℤ). IsLevel z) (read_at (temperature_at n values) at p refl) here
 
@@ -64,9 +65,9 @@ pub flow_fits : (g : PlainGrid) (values : List ℤ) (at : Site) → IsFlows (mes
 flow_fits g values at h l =
     let n = (mesh_of g).cells in
     let p = place_of at in
-    let below : face_number n at.axis p.i p.j p.k < length values = omega (arith, face_number_below n at.axis p.i p.j p.k (face_at n at p refl l), h.count) in
+    let below : face_number n at.axis (place_at p.i p.j p.k) < length values = omega (arith, face_number_below n at.axis (place_at p.i p.j p.k) (face_at n at p refl l), h.count) in
     subst (λ (z : ℤ). IsFlow z) (read_at (flow_at n values at.axis) at p refl)
-    (record { at_most = All-get_or (λ v. unsigned_abs v ≤ 10 ^ 12) values (face_number n at.axis p.i p.j p.k) (pos 0) below h.most })
+    (record { at_most = All-get_or (λ v. unsigned_abs v ≤ 10 ^ 12) values (face_number n at.axis (place_at p.i p.j p.k)) (pos 0) below h.most })
 
 four : (P : ℤ → Type 0) (a b c d : ℤ) → P a → P b → P c → P d → All P (a ∷ b ∷ c ∷ d ∷ [])
 four P a b c d ha hb hc hd = All-cons P a (b ∷ c ∷ d ∷ []) ha (All-cons P b (c ∷ d ∷ []) hb (All-cons P c (d ∷ []) hc (All-cons P d [] hd (λ k x l. absurd (omega (arith, l))))))

@@ -7,7 +7,8 @@ use Rattle.tb_detail.specs.declared.Content.TheVariants.{Solid, Air}
 use Rattle.tb_detail.specs.declared.Material.{Material}
 use Rattle.tb_model.specs.Mesh.{Mesh}
 use Rattle.tb_model.specs.Refinement.{mesh, scene_of}
-use Rattle.tb_model.specs.Values.{grid_lines, unscaled}
+use Rattle.tb_places.specs.Places.{by_axis}
+use Rattle.tb_model.specs.Values.{unscaled}
 use Rattle.tb_plain.specs.declared.grid.PlainGrid.{PlainGrid}
 use Rattle.tb_places.specs.Places.{Counts, second, third}
 use Rattle.tb_plain.specs.declared.site.Site.{Site}
@@ -16,7 +17,7 @@ use Rattle.tb_model.specs.declared.FaceKind.TheVariants.{Surface}
 
 -- the lines of a grid along each axis
 abbrev pub lines_of : PlainGrid → AxisName → List ℕ
-lines_of g = grid_lines g.x.items g.y.items g.z.items
+lines_of g = by_axis g.x.items g.y.items g.z.items
 
 -- the cells of a detail between these lines
 unfoldable pub mesh_of : PlainGrid → Mesh

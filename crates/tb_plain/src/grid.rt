@@ -6,6 +6,7 @@ ghost use Rattle.tb_places.specs.declared.AxisName.{AxisName};
 ghost use Rattle.tb_places.specs.declared.AxisName.TheVariants.{X, Y, Z};
 ghost use Rattle.tb_places.specs.Places.{IsCell};
 ghost use Rattle.tb_plain.specs.Items.{width_of};
+ghost use Rattle.tb_places.specs.Places.{place_at};
 ghost use Rattle.tb_plain.specs.Plain.{IsPlain, IsKnown, is_between, lines_of, mesh_of};
 
 use crate::site::Place;
@@ -93,7 +94,7 @@ impl PlainGrid {
     /// What fills the cell at a place, nothing where it is in no box.
     pub fn occupant(&self, place: Place) -> Option<Content>
         requires plain { IsPlain self.now }
-        requires within { IsCell (mesh_of self.now).cells place.i place.j place.k }
+        requires within { IsCell (mesh_of self.now).cells (place_at place.i place.j place.k) }
         ensures value { result ≡ (mesh_of self.now).occupant place.i place.j place.k }
         ensures known { IfSome result (IsKnown self.now.detail.materials) }
     {

@@ -1,6 +1,7 @@
 // The numbers of nodes and faces.
 ghost use Rattle.std.specs.Prelude.{◌≡◌, ◌+◌, ◌*◌, ◌^◌, ◌≤◌};
 ghost use Rattle.tb_places.specs.Places.{IsNode, IsFace, face_number, faces_a_layer, node_number};
+ghost use Rattle.tb_places.specs.Places.{place_at};
 ghost use Rattle.tb_plain.specs.Plain.{IsPlain, mesh_of};
 
 use crate::grid::PlainGrid;
@@ -11,8 +12,8 @@ impl PlainGrid {
     /// The number of the node at a place.
     pub(crate) fn node_number(&self, place: Place) -> usize
         requires plain { IsPlain self.now }
-        requires within { IsNode (mesh_of self.now).cells place.i place.j place.k }
-        ensures { result ≡ node_number (mesh_of self.now).cells place.i place.j place.k }
+        requires within { IsNode (mesh_of self.now).cells (place_at place.i place.j place.k) }
+        ensures { result ≡ node_number (mesh_of self.now).cells (place_at place.i place.j place.k) }
     {
         let row = place_in_rows(place.j, self.cells(AxisName::Y) + 1, place.k);
         place_in_rows(place.i, self.cells(AxisName::X) + 1, row)
@@ -32,9 +33,9 @@ impl PlainGrid {
     // The number of a face among those from its z-line up to the next.
     fn number_in_layer(&self, axis: AxisName, place: Place) -> usize
         requires plain { IsPlain self.now }
-        requires within { IsFace (mesh_of self.now).cells axis place.i place.j place.k }
+        requires within { IsFace (mesh_of self.now).cells axis (place_at place.i place.j place.k) }
         ensures number { result + place.k * faces_a_layer (mesh_of self.now).cells ≡
-            face_number (mesh_of self.now).cells axis place.i place.j place.k }
+            face_number (mesh_of self.now).cells axis (place_at place.i place.j place.k) }
         ensures most { result ≤ 2 ^ 22 }
     {
         let x = self.cells(AxisName::X);
@@ -49,9 +50,9 @@ impl PlainGrid {
     /// The number of the face across an axis at a place.
     pub(crate) fn face_number(&self, axis: AxisName, place: Place) -> usize
         requires plain { IsPlain self.now }
-        requires within { IsFace (mesh_of self.now).cells axis place.i place.j place.k }
+        requires within { IsFace (mesh_of self.now).cells axis (place_at place.i place.j place.k) }
         ensures number { result ≡
-            face_number (mesh_of self.now).cells axis place.i place.j place.k }
+            face_number (mesh_of self.now).cells axis (place_at place.i place.j place.k) }
         ensures most { result ≤ 2 ^ 44 }
     {
         place_in_rows(

@@ -1,10 +1,11 @@
 -- Cells beside one another, by their numbers and by their places.
 use Rattle.std.proofs.Common.{◌≡◌, inl, inr, ℕ, ◌<◌, List, Bool, true, sym, ap, ◌∙◌}
 use Rattle.tb_places.specs.declared.AxisName.{AxisName}
-use Rattle.tb_places.specs.Inverse.{Place, cell_place}
+use Rattle.tb_places.specs.declared.Place.{Place}
+use Rattle.tb_places.specs.Inverse.{cell_place}
 use Rattle.tb_places.specs.Places.{Counts, IsCell, cell_count, cell_number}
 use Rattle.tb_places.proofs.Cells.{cell_number_below, cell_number_of_place, cell_place_of_number, cell_place_within}
-use Rattle.tb_grid.specs.Direction.{ahead}
+use Rattle.tb_places.specs.Along.{ahead}
 use Rattle.tb_grid.specs.declared.ids.CellId.{CellId}
 use Rattle.tb_walk.specs.Paths.{SharesFace}
 use Rattle.tb_walk.specs.Marks.{IsMarked, HasOpening, ReachesOpening, flag_at}
@@ -23,22 +24,22 @@ pub neighbours_share : (n : Counts) (a : AxisName) (c d : ℕ) → AreNeighbours
 neighbours_share n a c d (inl next) = (a, inr next.next)
 neighbours_share n a c d (inr next) = (a, inl next.next)
 
-pub share_is_neighbours : (n : Counts) (p q : Place) → IsCell n p.i p.j p.k → IsCell n q.i q.j q.k → SharesFace p q →
-    (a : AxisName) × AreNeighbours n a (cell_number n p.i p.j p.k) (cell_number n q.i q.j q.k)
+pub share_is_neighbours : (n : Counts) (p q : Place) → IsCell n p → IsCell n q → SharesFace p q →
+    (a : AxisName) × AreNeighbours n a (cell_number n p) (cell_number n q)
 share_is_neighbours n p q p_in q_in (a, inl next) = (
   a,
   inr (record {
-    first = cell_number_below n p.i p.j p.k p_in;
-    second = cell_number_below n q.i q.j q.k q_in;
-    next = ap (λ (r : Place). ahead a 1 r) (cell_place_of_number n p.i p.j p.k p_in) ∙ next ∙ sym (cell_place_of_number n q.i q.j q.k q_in);
+    first = cell_number_below n p p_in;
+    second = cell_number_below n q q_in;
+    next = ap (ahead a 1) (cell_place_of_number n p p_in) ∙ next ∙ sym (cell_place_of_number n q q_in);
   }),
 )
 share_is_neighbours n p q p_in q_in (a, inr next) = (
   a,
   inl (record {
-    first = cell_number_below n q.i q.j q.k q_in;
-    second = cell_number_below n p.i p.j p.k p_in;
-    next = ap (λ (r : Place). ahead a 1 r) (cell_place_of_number n q.i q.j q.k q_in) ∙ next ∙ sym (cell_place_of_number n p.i p.j p.k p_in);
+    first = cell_number_below n q q_in;
+    second = cell_number_below n p p_in;
+    next = ap (ahead a 1) (cell_place_of_number n q q_in) ∙ next ∙ sym (cell_place_of_number n p p_in);
   }),
 )
 

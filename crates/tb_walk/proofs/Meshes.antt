@@ -5,17 +5,18 @@ use Rattle.std.proofs.lemmas.Bool.{cases_lt, false_from_ne_true, false≢true}
 use mathlib.Core.Path.{fun_ext}
 use Rattle.tb_places.specs.declared.AxisName.{AxisName}
 use Rattle.tb_places.specs.declared.AxisName.TheVariants.{X, Y, Z}
-use Rattle.tb_places.specs.Inverse.{Place}
-use Rattle.tb_places.specs.Places.{Counts, IsCell}
+use Rattle.tb_places.specs.declared.Place.{Place}
+use Rattle.tb_places.specs.Places.{Counts, IsCell, place_at}
 use Rattle.tb_places.proofs.Rows.{same_place}
 use Rattle.tb_detail.specs.declared.Content.{Content}
 use Rattle.tb_detail.specs.declared.Content.TheVariants.{Solid, Air}
-use Rattle.tb_grid.specs.Direction.{ahead}
+use Rattle.tb_places.specs.Along.{ahead}
 use Rattle.tb_model.specs.Mesh.{Mesh, below, above, kind_between}
 use Rattle.tb_model.specs.Faults.{IsSolid}
 use Rattle.tb_walk.specs.Paths.{SharesFace}
 use Rattle.tb_walk.specs.Marks.{IsMarked, HasOpening, AllReachOpenings, IsFirstWithoutOpening}
-use Rattle.tb_walk.specs.Isolated.{IsSolidCell, IsSurface, kind_at, HasSurface, MarkSolids, NoneIsolated, IsFirstIsolated}
+use Rattle.tb_walk.specs.Isolated.{IsSolidCell, IsSurface, HasSurface, MarkSolids, NoneIsolated, IsFirstIsolated}
+use Rattle.tb_model.specs.Mesh.{kind_at}
 use Rattle.tb_walk.proofs.Sets.{Extends, all_reach_in, first_in}
 
 -- ---- two cells beside one another, and the face between them
@@ -98,27 +99,27 @@ low_air n (suc i) f h solid surface = record {
 
 -- ---- cells of a mesh
 
-is_of_solid : (m : Mesh) (p : Place) → IsSolid m p.i p.j p.k → IsOfSolid (m.occupant p.i p.j p.k)
+is_of_solid : (m : Mesh) (p : Place) → IsSolid m p → IsOfSolid (m.occupant p.i p.j p.k)
 is_of_solid m p solid = record { material = solid.material; fills = solid.fills }
 
-is_solid : (m : Mesh) (p : Place) → IsOfSolid (m.occupant p.i p.j p.k) → IsSolid m p.i p.j p.k
+is_solid : (m : Mesh) (p : Place) → IsOfSolid (m.occupant p.i p.j p.k) → IsSolid m p
 is_solid m p solid = record { material = solid.material; fills = solid.fills }
 
 -- the face between a cell and the next one
-kind_between_next : (m : Mesh) (a : AxisName) (p : Place) → let q = ahead a 1 p in IsCell m.cells q.i q.j q.k →
+kind_between_next : (m : Mesh) (a : AxisName) (p : Place) → let q = ahead a 1 p in IsCell m.cells q →
     kind_at m a q ≡ kind_between (m.occupant p.i p.j p.k) (m.occupant q.i q.j q.k)
 kind_between_next m X p cell = next_on_line (m.cells X) p.i (λ n. m.occupant n p.j p.k) cell.0
 kind_between_next m Y p cell = next_on_line (m.cells Y) p.j (λ n. m.occupant p.i n p.k) cell.1
 kind_between_next m Z p cell = next_on_line (m.cells Z) p.k (λ n. m.occupant p.i p.j n) cell.2
 
-surface_next : (m : Mesh) (a : AxisName) (p q : Place) → ahead a 1 p ≡ q → IsCell m.cells q.i q.j q.k →
+surface_next : (m : Mesh) (a : AxisName) (p q : Place) → ahead a 1 p ≡ q → IsCell m.cells q →
     IsSurface (kind_between (m.occupant p.i p.j p.k) (m.occupant q.i q.j q.k)) → IsSurface (kind_at m a q)
 surface_next m a p q next = subst
-    (λ (r : Place). IsCell m.cells r.i r.j r.k → IsSurface (kind_between (m.occupant p.i p.j p.k) (m.occupant r.i r.j r.k)) → IsSurface (kind_at m a r)) next
+    (λ (r : Place). IsCell m.cells r → IsSurface (kind_between (m.occupant p.i p.j p.k) (m.occupant r.i r.j r.k)) → IsSurface (kind_at m a r)) next
     (λ cell surface. subst IsSurface (sym (kind_between_next m a p cell)) surface)
 
 -- a face that a solid cell shares with an air cell is a surface
-pub surface_at_air : (m : Mesh) (p q : Place) → SharesFace p q → IsSolidCell m p → IsCell m.cells q.i q.j q.k →
+pub surface_at_air : (m : Mesh) (p q : Place) → SharesFace p q → IsSolidCell m p → IsCell m.cells q →
     IsAir (m.occupant q.i q.j q.k) → HasSurface m p
 surface_at_air m p q (a, inl next) solid cell air = (a, inr (subst (λ (r : Place). IsSurface (kind_at m a r)) (sym next) (surface_next m a p q next cell (surface_above _ _ (is_of_solid m p solid.1) air))))
 surface_at_air m p q (a, inr next) solid cell air = (a, inl (surface_next m a q p next solid.0 (surface_below _ _ air (is_of_solid m p solid.1))))
@@ -130,7 +131,7 @@ opening_is_surface m flags marks p solid opening =
     (λ other. false≢true (sym opening.unmarked ∙ (marks.marked opening.beyond opening.in_grid).1 (is_solid m opening.beyond other))))
 
 opening_at_air : (m : Mesh) (flags : List Bool) → MarkSolids m.cells m flags → (p q : Place) → SharesFace p q →
-    IsCell m.cells q.i q.j q.k → IsAir (m.occupant q.i q.j q.k) → HasOpening m.cells flags p
+    IsCell m.cells q → IsAir (m.occupant q.i q.j q.k) → HasOpening m.cells flags p
 opening_at_air m flags marks p q shared cell air = record {
   beyond = q;
   in_grid = cell;
@@ -151,15 +152,15 @@ surface_is_opening m flags marks p solid (Z, inr surface) =
     opening_at_air m flags marks p (ahead Z 1 p) (Z, inl refl) (solid.0.0, solid.0.1, found.within) found.air
 surface_is_opening m flags marks p solid (X, inl surface) =
     let found = low_air (m.cells X) p.i (λ n. m.occupant n p.j p.k) solid.0.0 (is_of_solid m p solid.1) surface in
-    let q : Place = record { i = found.index; j = p.j; k = p.k } in
+    let q : Place = place_at found.index p.j p.k in
     opening_at_air m flags marks p q (X, inr (same_place (ahead X 1 q) p found.is refl refl)) (omega arith, solid.0.1, solid.0.2) found.air
 surface_is_opening m flags marks p solid (Y, inl surface) =
     let found = low_air (m.cells Y) p.j (λ n. m.occupant p.i n p.k) solid.0.1 (is_of_solid m p solid.1) surface in
-    let q : Place = record { i = p.i; j = found.index; k = p.k } in
+    let q : Place = place_at p.i found.index p.k in
     opening_at_air m flags marks p q (Y, inr (same_place (ahead Y 1 q) p refl found.is refl)) (solid.0.0, omega arith, solid.0.2) found.air
 surface_is_opening m flags marks p solid (Z, inl surface) =
     let found = low_air (m.cells Z) p.k (λ n. m.occupant p.i p.j n) solid.0.2 (is_of_solid m p solid.1) surface in
-    let q : Place = record { i = p.i; j = p.j; k = found.index } in
+    let q : Place = place_at p.i p.j found.index in
     opening_at_air m flags marks p q (Z, inr (same_place (ahead Z 1 q) p refl refl found.is)) (solid.0.0, solid.0.1, omega arith) found.air
 
 -- ---- the sets
@@ -196,4 +197,4 @@ none n m flags marks = with_counts n m flags (λ k. AllReachOpenings k flags ↔
 
 pub first : (n : Counts) (m : Mesh) (flags : List Bool) (p : Place) → MarkSolids n m flags → IsFirstWithoutOpening n flags p ↔ IsFirstIsolated m p
 first n m flags p marks = with_counts n m flags (λ k. IsFirstWithoutOpening k flags p ↔ IsFirstIsolated m p)
-    (λ here. (first_in _ _ _ _ _ (there m flags here) (back m flags here) p, first_in _ _ _ _ _ (back m flags here) (there m flags here) p)) marks
+    (λ here. (first_in m.cells _ _ _ _ (there m flags here) (back m flags here) p, first_in m.cells _ _ _ _ (back m flags here) (there m flags here) p)) marks

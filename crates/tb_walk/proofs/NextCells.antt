@@ -3,26 +3,21 @@ use Rattle.std.proofs.Common.{◌≡◌, ℕ, ◌+◌, ◌-◌, ◌<◌, arith, 
 use Rattle.tb_places.specs.declared.AxisName.{AxisName}
 use Rattle.tb_places.specs.declared.AxisName.TheVariants.{X, Y, Z}
 use Rattle.tb_places.specs.Along.{cell_stride}
-use Rattle.tb_places.specs.Inverse.{Place, cell_place}
-use Rattle.tb_places.specs.Places.{Counts, IsCell, cell_count, cell_number}
+use Rattle.tb_places.specs.declared.Place.{Place}
+use Rattle.tb_places.specs.Inverse.{cell_place}
+use Rattle.tb_places.specs.Places.{Counts, IsCell, cell_count, cell_number, place_at}
 use Rattle.tb_places.proofs.Cells.{cell_number_below, cell_number_of_place, cell_place_of_number, cell_place_within}
 use Rattle.tb_places.proofs.Rows.{same_place}
-use Rattle.tb_grid.specs.Direction.{ahead, index_along}
-use Rattle.tb_grid.proofs.Few.{index_within}
+use Rattle.tb_places.specs.Along.{ahead, index_along}
+use Rattle.tb_places.proofs.Meeting.{cell_below_face, index_within, low_face_of_cell}
+use Rattle.tb_places.proofs.Steps.{cell_step}
 use Rattle.tb_grid.proofs.Neighbours.{next_below, next_place}
 use Rattle.tb_walk.specs.Spreading.{IsNextCell}
-
-next_number : (n : Counts) (a : AxisName) (p : Place) →
-    let q = ahead a 1 p in cell_number n q.i q.j q.k ≡ cell_number n p.i p.j p.k + cell_stride n a
-next_number n X p = omega arith
-next_number n Y p = omega arith
-next_number n Z p = omega arith
 
 -- the next cell is one stride further, so there is one at most
 pub next_is_further : (n : Counts) (a : AxisName) (c d : ℕ) → IsNextCell n a c d → d ≡ c + cell_stride n a
 next_is_further n a c d is =
-    let at : Place → ℕ = λ p. cell_number n p.i p.j p.k in
-    sym (cell_number_of_place n d) ∙ ap at (sym is.next) ∙ next_number n a (cell_place n c)
+    sym (cell_number_of_place n d) ∙ ap (cell_number n) (sym is.next) ∙ cell_step n a (cell_place n c)
     ∙ ap (λ (m : ℕ). m + cell_stride n a) (cell_number_of_place n c)
 
 pub one_next : (n : Counts) (a : AxisName) (c d e : ℕ) → IsNextCell n a c d → IsNextCell n a c e → d ≡ e
@@ -42,26 +37,21 @@ cell_after n a c below further = record { first = below; second = next_below n a
 -- and where the line doesn't begin, the one before
 
 place_before : (a : AxisName) (p : Place) → 0 < index_along a p → (q : Place) × (ahead a 1 q ≡ p)
-place_before X p later = (record { i = p.i - 1; j = p.j; k = p.k }, same_place _ p (omega arith) refl refl)
-place_before Y p later = (record { i = p.i; j = p.j - 1; k = p.k }, same_place _ p refl (omega arith) refl)
-place_before Z p later = (record { i = p.i; j = p.j; k = p.k - 1 }, same_place _ p refl refl (omega arith))
-
-is_cell_before : (n : Counts) (a : AxisName) (q : Place) → let p = ahead a 1 q in IsCell n p.i p.j p.k → IsCell n q.i q.j q.k
-is_cell_before n X q cell = (omega arith, cell.1, cell.2)
-is_cell_before n Y q cell = (cell.0, omega arith, cell.2)
-is_cell_before n Z q cell = (cell.0, cell.1, omega arith)
+place_before X p later = (place_at (p.i - 1) p.j p.k, same_place _ p (omega arith) refl refl)
+place_before Y p later = (place_at p.i (p.j - 1) p.k, same_place _ p refl (omega arith) refl)
+place_before Z p later = (place_at p.i p.j (p.k - 1), same_place _ p refl refl (omega arith))
 
 number_before : (n : Counts) (a : AxisName) (c : ℕ) (q : Place) → c < cell_count n → ahead a 1 q ≡ cell_place n c →
     (d : ℕ) × (d + cell_stride n a ≡ c) × IsNextCell n a d c
 number_before n a c q below next =
-    let within : IsCell n q.i q.j q.k = is_cell_before n a q (subst (λ (p : Place). IsCell n p.i p.j p.k) (sym next) (cell_place_within n c below)) in
-    let at : Place → ℕ = λ p. cell_number n p.i p.j p.k in (
-      at q,
-      sym (next_number n a q) ∙ ap at next ∙ cell_number_of_place n c,
+    let cell : IsCell n (ahead a 1 q) = subst (IsCell n) (sym next) (cell_place_within n c below) in
+    let within : IsCell n q = cell_below_face n a q (low_face_of_cell n a (ahead a 1 q) cell) in (
+      cell_number n q,
+      sym (cell_step n a q) ∙ ap (cell_number n) next ∙ cell_number_of_place n c,
       record {
-        first = cell_number_below n q.i q.j q.k within;
+        first = cell_number_below n q within;
         second = below;
-        next = ap (λ (p : Place). ahead a 1 p) (cell_place_of_number n q.i q.j q.k within) ∙ next;
+        next = ap (ahead a 1) (cell_place_of_number n q within) ∙ next;
       },
     )
 
@@ -72,17 +62,15 @@ cell_before n a c below later =
 
 -- ---- the same, for a cell whose place p is known
 
-pub after_place : (n : Counts) (a : AxisName) (c : ℕ) (p : Place) → c < cell_count n →
-    p.i ≡ (cell_place n c).i → p.j ≡ (cell_place n c).j → p.k ≡ (cell_place n c).k →
+pub after_place : (n : Counts) (a : AxisName) (c : ℕ) (p : Place) → c < cell_count n → p ≡ cell_place n c →
     (index_along a p + 1 ≡ n a → ⊥) → IsNextCell n a c (c + cell_stride n a)
-after_place n a c p below on_x on_y on_z further =
+after_place n a c p below placed further =
     let within : index_along a (cell_place n c) < n a = index_within n a (cell_place n c) (cell_place_within n c below) in
-    let same : index_along a p ≡ index_along a (cell_place n c) = ap (λ (q : Place). index_along a q) (same_place _ _ on_x on_y on_z) in
+    let same : index_along a p ≡ index_along a (cell_place n c) = ap (index_along a) placed in
     cell_after n a c below (omega arith)
 
-pub before_place : (n : Counts) (a : AxisName) (c : ℕ) (p : Place) → c < cell_count n →
-    p.i ≡ (cell_place n c).i → p.j ≡ (cell_place n c).j → p.k ≡ (cell_place n c).k →
+pub before_place : (n : Counts) (a : AxisName) (c : ℕ) (p : Place) → c < cell_count n → p ≡ cell_place n c →
     (index_along a p ≡ 0 → ⊥) → (d : ℕ) × (d + cell_stride n a ≡ c) × IsNextCell n a d c
-before_place n a c p below on_x on_y on_z later =
-    let same : index_along a p ≡ index_along a (cell_place n c) = ap (λ (q : Place). index_along a q) (same_place _ _ on_x on_y on_z) in
+before_place n a c p below placed later =
+    let same : index_along a p ≡ index_along a (cell_place n c) = ap (index_along a) placed in
     cell_before n a c below (omega arith)

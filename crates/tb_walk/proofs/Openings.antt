@@ -4,7 +4,8 @@ use Rattle.std.specs.Prelude.{◌↔◌, IsTrue}
 use Rattle.std.proofs.lemmas.Bool.{cases_lt}
 use Rattle.tb_places.specs.declared.AxisName.{AxisName}
 use Rattle.tb_places.specs.declared.AxisName.TheVariants.{X, Y, Z}
-use Rattle.tb_places.specs.Inverse.{Place, cell_place}
+use Rattle.tb_places.specs.declared.Place.{Place}
+use Rattle.tb_places.specs.Inverse.{cell_place}
 use Rattle.tb_places.specs.Places.{Counts, cell_count, cell_number}
 use Rattle.tb_places.proofs.Cells.{cell_number_of_place, cell_place_within}
 use Rattle.tb_grid.specs.Views.{along_axes}
@@ -31,8 +32,8 @@ along_opening n marked c below opening =
     let beside = share_is_neighbours n (cell_place n c) q (cell_place_within n c below) opening.in_grid opening.shared in (
       beside.0,
       record {
-        beyond = cell_number n q.i q.j q.k;
-        beside = subst (λ (m : ℕ). AreNeighbours n beside.0 m (cell_number n q.i q.j q.k)) (cell_number_of_place n c) beside.1;
+        beyond = cell_number n q;
+        beside = subst (λ (m : ℕ). AreNeighbours n beside.0 m (cell_number n q)) (cell_number_of_place n c) beside.1;
         unmarked = opening.unmarked;
       },
     )

@@ -1,8 +1,8 @@
 -- How paths go on; and paths of one set of cells are paths of another that has the same cells and openings.
 use Rattle.std.proofs.Common.{inl, inr, List, [], ◌∷◌, subst}
-use Rattle.tb_places.specs.Inverse.{Place}
+use Rattle.tb_places.specs.declared.Place.{Place}
 use Rattle.tb_places.specs.Places.{Counts}
-use Rattle.tb_walk.specs.Paths.{SharesFace, IsPath, Reaches, AllReach, IsEnclosed, IsFirstEnclosed}
+use Rattle.tb_walk.specs.Paths.{SharesFace, IsPath, Reaches, AllReach, IsFirstEnclosed}
 
 pub shares_back : (p q : Place) → SharesFace p q → SharesFace q p
 shares_back p q (a, inl next) = (a, inr next)
@@ -41,16 +41,10 @@ pub all_reach_in : (inside opens inside' opens' : Place → Type 0) → Extends 
 all_reach_in inside opens inside' opens' there back all p here =
     reaches_in inside opens inside' opens' there p (back.cells p here) (all p (back.cells p here))
 
-enclosed_in : (inside opens inside' opens' : Place → Type 0) → Extends inside opens inside' opens' → Extends inside' opens' inside opens →
-    (p : Place) → IsEnclosed inside opens p → IsEnclosed inside' opens' p
-enclosed_in inside opens inside' opens' there back p is = record {
-  in_set = there.cells p is.in_set;
-  no_way = λ way. is.no_way (reaches_in inside' opens' inside opens back p (there.cells p is.in_set) way);
-}
-
 pub first_in : (n : Counts) (inside opens inside' opens' : Place → Type 0) → Extends inside opens inside' opens' →
     Extends inside' opens' inside opens → (p : Place) → IsFirstEnclosed n inside opens p → IsFirstEnclosed n inside' opens' p
 first_in n inside opens inside' opens' there back p is = record {
-  enclosed = enclosed_in inside opens inside' opens' there back p is.enclosed;
-  first = λ q here before. reaches_in inside opens inside' opens' there q (back.cells q here) (is.first q (back.cells q here) before);
+  in_set = there.cells p is.in_set;
+  is_bad = λ way. is.is_bad (reaches_in inside' opens' inside opens back p (there.cells p is.in_set) way);
+  before = λ q here below. reaches_in inside opens inside' opens' there q (back.cells q here) (is.before q (back.cells q here) below);
 }

@@ -3,7 +3,7 @@ use Rattle.std.proofs.Common.{◌≡◌, ℕ, zero, suc, ◌<◌, ◌≤◌, inl
 use Rattle.std.specs.Prelude.{Option, Some, None}
 use Rattle.std.proofs.lemmas.Bool.{cases_lt}
 use Rattle.tb_places.specs.declared.AxisName.TheVariants.{X, Y, Z}
-use Rattle.tb_places.specs.Inverse.{Place}
+use Rattle.tb_places.specs.declared.Place.{Place}
 use Rattle.tb_places.specs.Places.{Counts, IsCell, cell_number}
 use Rattle.tb_places.proofs.Cells.{cell_number_apart}
 use Rattle.tb_places.proofs.Rows.{same_place}
@@ -15,15 +15,16 @@ use Rattle.tb_walk.specs.Paths.{IsEnclosed, SharesFace}
 use Rattle.tb_walk.specs.Marks.{flag_at, IsMarked, HasOpening, IsWithoutOpening}
 use Rattle.tb_walk.specs.Isolated.{IsFilled, IsIsolated, IsFirstIsolated, IsSolidCell, HasSurface}
 use Rattle.tb_walk.proofs.Meshes.{surface_at_air}
+use Rattle.tb_places.specs.Places.{place_at}
 use Rattle.tb_walk.proofs.Sets.{shares_back, further_out}
 
 -- a property of cells passes from each cell of a grid to those that share a face with it
 Passes : Counts → (Place → Type 0) → Type 0
-Passes n holds = (p q : Place) → IsCell n p.i p.j p.k → IsCell n q.i q.j q.k → SharesFace p q → holds p → holds q
+Passes n holds = (p q : Place) → IsCell n p → IsCell n q → SharesFace p q → holds p → holds q
 
 -- cells one after the other
 record IsLine (n : Counts) (count : ℕ) (at : ℕ → Place) : Type 0 where
-  cells : (i : ℕ) → i < count → IsCell n (at i).i (at i).j (at i).k
+  cells : (i : ℕ) → i < count → IsCell n (at i)
   shared : (i : ℕ) → SharesFace (at i) (at (suc i))
 
 to_first : (n : Counts) (holds : Place → Type 0) (count : ℕ) (at : ℕ → Place) → Passes n holds → IsLine n count at → (i : ℕ) →
@@ -45,13 +46,13 @@ along_line : (n : Counts) (holds : Place → Type 0) (count : ℕ) (at : ℕ →
 along_line n holds count at passes line i j from to here = from_first n holds count at passes line j to (to_first n holds count at passes line i from here)
 
 -- along x, then along y, then along z
-everywhere : (n : Counts) (holds : Place → Type 0) → Passes n holds → (p q : Place) → IsCell n p.i p.j p.k → IsCell n q.i q.j q.k → holds p → holds q
+everywhere : (n : Counts) (holds : Place → Type 0) → Passes n holds → (p q : Place) → IsCell n p → IsCell n q → holds p → holds q
 everywhere n holds passes p q from to here =
-    let on_x = along_line n holds (n X) (λ t. record { i = t; j = p.j; k = p.k }) passes
+    let on_x = along_line n holds (n X) (λ t. place_at t p.j p.k) passes
     (record { cells = λ t l. (l, from.1, from.2); shared = λ t. (X, inl (same_place _ _ (add-one t) refl refl)) }) p.i q.i from.0 to.0 here in
-    let on_y = along_line n holds (n Y) (λ t. record { i = q.i; j = t; k = p.k }) passes
+    let on_y = along_line n holds (n Y) (λ t. place_at q.i t p.k) passes
     (record { cells = λ t l. (to.0, l, from.2); shared = λ t. (Y, inl (same_place _ _ refl (add-one t) refl)) }) p.j q.j from.1 to.1 on_x in
-    along_line n holds (n Z) (λ t. record { i = q.i; j = q.j; k = t }) passes
+    along_line n holds (n Z) (λ t. place_at q.i q.j t) passes
     (record { cells = λ t l. (to.0, to.1, l); shared = λ t. (Z, inl (same_place _ _ refl refl (add-one t))) }) p.k q.k from.2 to.2 on_y
 
 -- ---- marked cells
@@ -75,7 +76,7 @@ marked_pass n flags p q from to shared enclosed = on_flag (flag_at n flags q) re
     on_flag true set = enclosed_beside (IsMarked n flags) (HasOpening n flags) p q shared (to, set) enclosed
     on_flag false unset = absurd (no_opening (IsMarked n flags) (HasOpening n flags) p enclosed (record { beyond = q; in_grid = to; shared = shared; unmarked = unset }))
 
-pub all_marked : (n : Counts) (flags : List Bool) (p q : Place) → IsWithoutOpening n flags p → IsCell n q.i q.j q.k → IsMarked n flags q
+pub all_marked : (n : Counts) (flags : List Bool) (p q : Place) → IsWithoutOpening n flags p → IsCell n q → IsMarked n flags q
 all_marked n flags p q here to =
     let there : IsWithoutOpening n flags q = everywhere n (IsWithoutOpening n flags) (marked_pass n flags) p q here.in_set.0 to here in
     there.in_set
@@ -91,21 +92,19 @@ solids_pass m filled p q from to shared enclosed = on_content (m.occupant q.i q.
     on_content (Some (Air e rs)) is = absurd (no_opening (IsSolidCell m) (HasSurface m) p enclosed (surface_at_air m p q shared enclosed.in_set to (record { environment = e; resistance = rs; fills = is })))
     on_content None is = absurd (filled q to is)
 
-all_isolated : (m : Mesh) (p q : Place) → IsFilled m → IsIsolated m p → IsCell m.cells q.i q.j q.k → IsIsolated m q
+all_isolated : (m : Mesh) (p q : Place) → IsFilled m → IsIsolated m p → IsCell m.cells q → IsIsolated m q
 all_isolated m p q filled here to = everywhere m.cells (IsIsolated m) (solids_pass m filled) p q here.in_set.0 to here
 
-pub all_solid : (m : Mesh) (p q : Place) → IsFilled m → IsIsolated m p → IsCell m.cells q.i q.j q.k → IsSolid m q.i q.j q.k
+pub all_solid : (m : Mesh) (p q : Place) → IsFilled m → IsIsolated m p → IsCell m.cells q → IsSolid m q
 all_solid m p q filled here to = let there = all_isolated m p q filled here to in there.in_set.1
 
-pub first_at_corner : (m : Mesh) (p : Place) → IsFilled m → IsFirstIsolated m p → p ≡ record { i = 0; j = 0; k = 0 }
+pub first_at_corner : (m : Mesh) (p : Place) → IsFilled m → IsFirstIsolated m p → p ≡ place_at 0 0 0
 first_at_corner m p filled is =
-    let corner : Place = record { i = 0; j = 0; k = 0 } in
-    let within : IsCell m.cells p.i p.j p.k = is.enclosed.in_set.0 in
-    let cell : IsCell m.cells 0 0 0 = (omega (arith, within.0), omega (arith, within.1), omega (arith, within.2)) in
-    let there = all_isolated m p corner filled is.enclosed cell in
-    let at : cell_number m.cells p.i p.j p.k ≡ cell_number m.cells 0 0 0 = ⊎_elim
-    (λ (l : cell_number m.cells 0 0 0 < cell_number m.cells p.i p.j p.k). absurd (there.no_way (is.first corner there.in_set l)))
-    (λ (l : cell_number m.cells p.i p.j p.k ≤ cell_number m.cells 0 0 0). omega arith)
-    (cases_lt (cell_number m.cells 0 0 0) (cell_number m.cells p.i p.j p.k)) in
-    let same = cell_number_apart m.cells p.i p.j p.k 0 0 0 within cell at in
-    same_place p corner same.0 same.1 same.2
+    let corner = place_at 0 0 0 in
+    let within : IsCell m.cells p = is.in_set.0 in
+    let cell : IsCell m.cells corner = (omega (arith, within.0), omega (arith, within.1), omega (arith, within.2)) in
+    let there = all_isolated m p corner filled (record { in_set = is.in_set; no_way = is.is_bad }) cell in
+    cell_number_apart m.cells p corner within cell (⊎_elim
+    (λ (l : cell_number m.cells corner < cell_number m.cells p). absurd (there.no_way (is.before corner there.in_set l)))
+    (λ (l : cell_number m.cells p ≤ cell_number m.cells corner). omega arith)
+    (cases_lt (cell_number m.cells corner) (cell_number m.cells p)))

@@ -2,11 +2,12 @@
 --
 -- A set of cells is told by a property of places: `inside` holds of the cells of the set, `opens` of those with an
 -- opening.
-use Rattle.std.specs.Prelude.{◌≡◌, ◌⊎◌, ◌<◌, ℕ, List, [], ◌∷◌}
+use Rattle.std.specs.Prelude.{◌≡◌, ◌⊎◌, List, [], ◌∷◌}
 use Rattle.tb_places.specs.declared.AxisName.{AxisName}
-use Rattle.tb_places.specs.Inverse.{Place}
+use Rattle.tb_places.specs.declared.Place.{Place}
 use Rattle.tb_places.specs.Places.{Counts, cell_number}
-use Rattle.tb_grid.specs.Direction.{ahead}
+use Rattle.tb_places.specs.Ranges.{IsFirst}
+use Rattle.tb_places.specs.Along.{ahead}
 
 -- two cells share a face: one of them is the next of the other along an axis
 abbrev pub SharesFace : Place → Place → Type 0
@@ -29,16 +30,11 @@ pub record Reaches (inside opens : Place → Type 0) (p : Place) : Type 0 where
 abbrev pub AllReach : (inside opens : Place → Type 0) → Type 0
 AllReach inside opens = (p : Place) → inside p → Reaches inside opens p
 
--- every cell of the set whose number is below k does
-abbrev pub AllReachBelow : Counts → (inside opens : Place → Type 0) → ℕ → Type 0
-AllReachBelow n inside opens k = (p : Place) → inside p → cell_number n p.i p.j p.k < k → Reaches inside opens p
-
 -- a cell of the set that reaches none
 pub record IsEnclosed (inside opens : Place → Type 0) (p : Place) : Type 0 where
   pub in_set : inside p
   pub no_way : ¬ Reaches inside opens p
 
 -- and the first such cell, in the order of the numbers of cells
-pub record IsFirstEnclosed (n : Counts) (inside opens : Place → Type 0) (p : Place) : Type 0 where
-  pub enclosed : IsEnclosed inside opens p
-  pub first : AllReachBelow n inside opens (cell_number n p.i p.j p.k)
+abbrev pub IsFirstEnclosed : Counts → (inside opens : Place → Type 0) → Place → Type 0
+IsFirstEnclosed n inside opens = IsFirst (cell_number n) inside (Reaches inside opens) (λ p. ¬ Reaches inside opens p)

@@ -4,7 +4,7 @@ use Rattle.tb_places.specs.declared.AxisName.{AxisName}
 use Rattle.tb_places.specs.Inverse.{cell_place}
 use Rattle.tb_places.specs.Places.{Counts, cell_count}
 use Rattle.tb_grid.specs.declared.ids.CellId.{CellId}
-use Rattle.tb_grid.specs.Direction.{ahead}
+use Rattle.tb_places.specs.Along.{ahead}
 use Rattle.tb_walk.specs.Marks.{HasOpening, ReachesOpening}
 
 -- cell d is the next of cell c along an axis

@@ -4,8 +4,8 @@
 //! where crates above cite it.
 
 ghost use Rattle.std.specs.Prelude.{◌≡◌, ◌↔◌, List, Bool};
-ghost use Rattle.tb_places.specs.Inverse.{Place};
-ghost use Rattle.tb_places.specs.Places.{Counts, IsCell};
+ghost use Rattle.tb_places.specs.declared.Place.{Place};
+ghost use Rattle.tb_places.specs.Places.{Counts, IsCell, place_at};
 ghost use Rattle.tb_model.specs.Faults.{IsSolid};
 ghost use Rattle.tb_model.specs.Mesh.{Mesh};
 ghost use Rattle.tb_walk.specs.Marks.{AllReachOpenings, HasOpening, IsFirstWithoutOpening, IsMarked, IsWithoutOpening};
@@ -27,8 +27,8 @@ pub fn openings_are_surfaces()
 /// corner.
 pub fn enclosed_cells_fill_the_grid()
     ensures marked { (n : Counts) (flags : List Bool) (p q : Place) → IsWithoutOpening n flags p
-        → IsCell n q.i q.j q.k → IsMarked n flags q }
+        → IsCell n q → IsMarked n flags q }
     ensures solid { (m : Mesh) (p q : Place) → IsFilled m → IsIsolated m p
-        → IsCell m.cells q.i q.j q.k → IsSolid m q.i q.j q.k }
-    ensures first { (m : Mesh) (p : Place) → IsFilled m → IsFirstIsolated m p → p ≡ record { i = 0; j = 0; k = 0 } }
+        → IsCell m.cells q → IsSolid m q }
+    ensures first { (m : Mesh) (p : Place) → IsFilled m → IsFirstIsolated m p → p ≡ place_at 0 0 0 }
 {}

@@ -18,6 +18,7 @@ use Rattle.tb_model.specs.Values.{flux_of}
 use Rattle.thermal_cli.specs.declared.wall.Wall.{Wall}
 use Rattle.thermal_cli.specs.Limits.{IsInLimits}
 use Rattle.thermal_cli.specs.Wall.{mesh_of, face_values_of}
+use Rattle.tb_places.specs.Places.{place_at}
 use Rattle.thermal_cli.proofs.WallCells.{inner_air, solid_wall, outer_air, inner_surface, outer_surface}
 
 abbrev flux : Wall → Flux
@@ -76,7 +77,7 @@ pub wall_balanced : (w : Wall) → IsInLimits w → w.flow_in ≡ w.flow_out →
 wall_balanced w h e = record { cells = cells w h e; shut = shut w h }
 
 -- no solid cell comes before the wall's
-before : (w : Wall) → IsInLimits w → (i j k : ℕ) → IsCell (mesh_of w).cells i j k → IsSolid (mesh_of w) i j k → cell_number (mesh_of w).cells i j k < 1 → ⊥
+before : (w : Wall) → IsInLimits w → (i j k : ℕ) → IsCell (mesh_of w).cells (place_at i j k) → IsSolid (mesh_of w) (place_at i j k) → cell_number (mesh_of w).cells (place_at i j k) < 1 → ⊥
 before w h zero zero zero c s l = let o = inner_air w h in let f = s.fills in cc
 before w h (suc i) j k c s l = omega arith
 before w h i (suc j) k c s l = omega (arith, c)
@@ -90,5 +91,5 @@ wall_unbalanced w h e = record {
   solid = record { material = 0; fills = solid_wall w h };
   leaving = solid_outflow w;
   unbalanced = λ z. e (omega (arith, ints, z));
-  first = λ i j k c s l. absurd (before w h i j k c s l);
+  first = λ p c s l. absurd (before w h p.i p.j p.k c s l);
 }

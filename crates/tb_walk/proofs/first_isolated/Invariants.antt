@@ -1,6 +1,6 @@
 use Rattle.tb_grid.specs.Grid.{counts_of}
 use Rattle.tb_walk.specs.Marks.{HasOpening, IsMarked}
-use Rattle.tb_walk.specs.Paths.{AllReachBelow}
+use Rattle.tb_walk.proofs.Ends.{AllReachBelow}
 use Rattle.tb_walk.proofs.first_isolated.Given as goal
 
 abbrev pub invariant-loop-number : goal.invariant-loop-number

@@ -1,7 +1,7 @@
 use mathlib.Core.Path.{refl}
 use Rattle.tb_duality.proofs.BodyEnds.{ends_sound, upper_within, lower_within}
 use Rattle.tb_duality.proofs.EndLaws.{upper_end_near, lower_end_below}
-use Rattle.tb_geometry.specs.Seen.{mesh_on}
+use Rattle.tb_geometry.specs.Grids.{mesh_on}
 use Rattle.tb_duality.proofs.bodies.ends_are_sound.Goals as goal
 
 pub returns-clause-sound : goal.returns-clause-sound

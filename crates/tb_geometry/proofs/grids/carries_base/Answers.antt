@@ -1,7 +1,7 @@
 use Rattle.std.proofs.Common.{sym, ◌∙◌}
 use Rattle.std.proofs.lemmas.Bool.{false≢true}
 use Rattle.tb_places.specs.declared.AxisName.TheVariants.{X, Y, Z}
-use Rattle.tb_geometry.proofs.Carrying.{on_each_axis}
+use Rattle.tb_places.proofs.ByAxis.{on_each_axis}
 use Rattle.tb_geometry.proofs.grids.carries_base.Goals.{then-carries_along, else-carries_along}
 use Rattle.tb_geometry.proofs.grids.carries_base.Goals as goal
 

@@ -1,6 +1,6 @@
 use Rattle.std.proofs.Common.{◌≤◌, ◌∙◌, ℕ, List, not, ap, length, get_or, sym, subst}
 use Rattle.std.specs.List.{Contains}
-use Rattle.tb_geometry.specs.Seen.{IsFirstMissing}
+use Rattle.tb_geometry.specs.Grids.{IsFirstMissing}
 use Rattle.tb_geometry.proofs.Ends.{first_lack, has_all, line_lacking, line_there, one_line_more}
 use Rattle.tb_geometry.proofs.grids.first_lacking.Goals as goal
 

@@ -9,7 +9,7 @@ use Rattle.tb_geometry.proofs.holders.covering.Goals as goal
 pub overflow_cast-n : goal.overflow_cast-n
 overflow_cast-n c =
     let found = subst (λ (t : List ℕ). IsFirstFree t c.in-Some.n) c.as_slice.ensures.value c.in-Some.ensures in
-    let within : c.in-Some.n < length c.in_ok-table.table.items = found.within in
+    let within : c.in-Some.n < length c.in_ok-table.table.items = found.in_set in
     let long : length c.in_ok-table.table.items ≡ cell_count (base_counts c.args.boxes.now) = c.in_ok-table.ensures.each_cell in
     let few : cell_count (base_counts c.args.boxes.now) ≤ 262144 = c.requires.few in
     omega arith

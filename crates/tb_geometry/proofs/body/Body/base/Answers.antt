@@ -1,7 +1,7 @@
 use Rattle.std.proofs.Common.{sym, subst}
 use Rattle.tb_detail.specs.declared.Detail.{Detail}
 use Rattle.tb_grid.specs.Grid.{Axes}
-use Rattle.tb_geometry.specs.Seen.{CarriesBody}
+use Rattle.tb_geometry.specs.Grids.{CarriesBody}
 use Rattle.tb_geometry.proofs.Steps.{boxes_in_limits}
 use Rattle.tb_geometry.proofs.Whole.{base_carries}
 use Rattle.tb_geometry.proofs.body.Body.base.Goals as goal

@@ -1,6 +1,6 @@
 use Rattle.std.proofs.Common.{sym, subst}
 use Rattle.tb_detail.specs.declared.Detail.{Detail}
-use Rattle.tb_geometry.specs.Seen.{CarriesBody}
+use Rattle.tb_geometry.specs.Grids.{CarriesBody}
 use Rattle.tb_geometry.proofs.Carrying.{carries_from_refines, refines_from_carries}
 use Rattle.tb_geometry.proofs.body.Body.carries.Goals as goal
 

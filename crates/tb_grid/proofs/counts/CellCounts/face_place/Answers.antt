@@ -1,9 +1,8 @@
 use Rattle.std.proofs.Common.{arith, ◌+◌, ◌*◌, ◌-◌, ◌%◌, sym, ◌∙◌}
 use Rattle.tb_places.specs.declared.AxisName.TheVariants.{X, Y}
 use Rattle.tb_places.specs.Places.{faces_a_layer}
-use Rattle.tb_places.proofs.Faces.{face_place_x, face_place_y, face_place_z}
+use Rattle.tb_places.proofs.Faces.{face_place_within, face_place_x, face_place_y, face_place_z}
 use Rattle.tb_grid.specs.Views.{along_axes}
-use Rattle.tb_grid.proofs.Within.{face_within}
 use Rattle.tb_grid.proofs.counts.CellCounts.face_place.Goals as goal
 
 pub returns-then-in_layer-z_faces-clause-place : goal.returns-then-in_layer-z_faces-clause-place
@@ -33,12 +32,12 @@ returns-clause-place c =
 
 pub returns-then-in_layer-z_faces-clause-within : goal.returns-then-in_layer-z_faces-clause-within
 returns-then-in_layer-z_faces-clause-within c =
-    face_within (along_axes c.args.self) c.args.face.0 _ c.requires (returns-then-in_layer-z_faces-clause-place c)
+    rw (returns-then-in_layer-z_faces-clause-place c) (face_place_within (along_axes c.args.self) c.args.face.0 c.requires)
 
 pub returns-then-side-x_faces-clause-within : goal.returns-then-side-x_faces-clause-within
 returns-then-side-x_faces-clause-within c =
-    face_within (along_axes c.args.self) c.args.face.0 _ c.requires (returns-then-side-x_faces-clause-place c)
+    rw (returns-then-side-x_faces-clause-place c) (face_place_within (along_axes c.args.self) c.args.face.0 c.requires)
 
 pub returns-clause-within : goal.returns-clause-within
 returns-clause-within c =
-    face_within (along_axes c.args.self) c.args.face.0 _ c.requires (returns-clause-place c)
+    rw (returns-clause-place c) (face_place_within (along_axes c.args.self) c.args.face.0 c.requires)

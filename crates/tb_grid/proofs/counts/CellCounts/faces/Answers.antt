@@ -5,12 +5,10 @@ use Rattle.tb_grid.proofs.counts.CellCounts.faces.Goals as goal
 
 pub overflow_mul-result : goal.overflow_mul-result
 overflow_mul-result c =
-    let n = c.args.self in
-    let s = small n.x n.y n.z n.some.0 n.some.1 n.some.2 n.few in
+    let n = c.args.self in let s = small n in
     let below = few_faces (along_axes n) s in rw c.faces_a_layer.ensures (omega arith)
 
 pub overflow_add-result : goal.overflow_add-result
 overflow_add-result c =
-    let n = c.args.self in
-    let s = small n.x n.y n.z n.some.0 n.some.1 n.some.2 n.few in
+    let n = c.args.self in let s = small n in
     let below = few_faces (along_axes n) s in rw c.faces_a_layer.ensures (omega arith)

@@ -7,9 +7,9 @@ use Rattle.tb_grid.proofs.counts.CellCounts.node_number.Goals as goal
 pub overflow_mul-result-2 : goal.overflow_mul-result-2
 overflow_mul-result-2 c =
     let n = c.args.self in let p = c.args.place in
-    let s = small n.x n.y n.z n.some.0 n.some.1 n.some.2 n.few in
-    let below = small_node (along_axes n) p.i p.j p.k s c.requires in omega arith
+    let s = small n in
+    let below = small_node (along_axes n) p s c.requires in omega arith
 
 pub returns-clause-within : goal.returns-clause-within
 returns-clause-within c =
-    let p = c.args.place in node_number_below (along_axes c.args.self) p.i p.j p.k c.requires
+    let p = c.args.place in node_number_below (along_axes c.args.self) p c.requires

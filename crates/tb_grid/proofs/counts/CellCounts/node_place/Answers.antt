@@ -3,6 +3,4 @@ use Rattle.tb_grid.specs.Views.{along_axes}
 use Rattle.tb_grid.proofs.counts.CellCounts.node_place.Goals as goal
 
 pub returns-clause-within : goal.returns-clause-within
-returns-clause-within c =
-    let at = c.by_rows.ensures in
-    rw (at.on_x, at.on_y, at.on_z) (node_place_within (along_axes c.args.self) c.args.node.0 c.requires)
+returns-clause-within c = rw c.by_rows.ensures (node_place_within (along_axes c.args.self) c.args.node.0 c.requires)

@@ -1,19 +1,20 @@
 -- What a body says of a grid that carries it.
-use Rattle.std.specs.Prelude.{ℕ, ◌≡◌, ◌-◌, ◌<◌, List, length, slice_index, Option, Some}
+use Rattle.std.specs.Prelude.{ℕ, ◌≡◌, ◌-◌, List, length, slice_index, Option, Some}
 use Rattle.std.specs.List.{Contains}
 use Rattle.std.specs.Option.{option_map}
 use Rattle.tb_places.specs.declared.AxisName.{AxisName}
-use Rattle.tb_places.specs.Inverse.{Place, FacePlace}
+use Rattle.tb_places.specs.declared.Place.{Place}
+use Rattle.tb_places.specs.declared.FacePlace.{FacePlace}
 use Rattle.tb_places.specs.Places.{along, second, third}
+use Rattle.tb_places.specs.Ranges.{IsFirst}
 use Rattle.tb_detail.specs.declared.Content.{Content}
 use Rattle.tb_detail.specs.declared.Content.TheVariants as content
 use Rattle.tb_detail.specs.declared.Detail.{Detail}
 use Rattle.tb_detail.specs.declared.SpaceBox.{SpaceBox}
 use Rattle.tb_grid.specs.Axis.{IsIntervalOf}
-use Rattle.tb_grid.specs.Direction.{index_along}
+use Rattle.tb_places.specs.Along.{index_along}
 use Rattle.tb_grid.specs.Grid.{Axes, lines_of}
-use Rattle.tb_model.specs.declared.FaceKind.{FaceKind}
-use Rattle.tb_model.specs.Mesh.{Mesh, above, below, kind}
+use Rattle.tb_model.specs.Mesh.{Mesh, above, below}
 use Rattle.tb_model.specs.Refinement.{Refinement, Refines, mesh, scene_of}
 use Rattle.tb_model.specs.Values.{unscaled}
 use Rattle.tb_geometry.specs.Bodies.{filled_with}
@@ -41,10 +42,8 @@ pub record CarriesLines (base lines : List ℕ) : Type 0 where
   pub last : slice_index lines (length lines - 1) ≡ slice_index base (length base - 1)
 
 -- the base line at x is the lowest that lines lack
-pub record IsFirstMissing (base lines : List ℕ) (x : ℕ) : Type 0 where
-  pub is_base : Contains base x
-  pub missing : ¬ Contains lines x
-  pub first : (y : ℕ) → Contains base y → y < x → Contains lines y
+abbrev pub IsFirstMissing : List ℕ → List ℕ → ℕ → Type 0
+IsFirstMissing base lines = IsFirst (λ x. x) (Contains base) (Contains lines) (λ x. ¬ Contains lines x)
 
 -- ---- the cells and faces of such a grid
 -- the cells of a grid, with what fills them
@@ -76,10 +75,6 @@ abbrev pub above_face : Mesh → FacePlace → Option Content
 above_face m f =
     above (m.cells f.axis) (λ n. along f.axis m.occupant n (index_along (second f.axis) f.place) (index_along (third f.axis) f.place))
     (index_along f.axis f.place)
-
--- the kind of a face of a mesh
-abbrev pub kind_at : Mesh → FacePlace → FaceKind
-kind_at m f = kind m f.axis (index_along f.axis f.place) (index_along (second f.axis) f.place) (index_along (third f.axis) f.place)
 
 -- an occupant as a content, with the conductivity in the material's place: which solid lies at a face makes no
 -- difference to its kind
