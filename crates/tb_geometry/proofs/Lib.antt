@@ -7,6 +7,7 @@ pub mod Exclusions
 pub mod Finer
 pub mod HullEnds
 pub mod Hulls
+pub mod LevelGrids
 pub mod Lines
 pub mod Members
 pub mod Middles

@@ -20,6 +20,7 @@ mod grid_tests;
 mod grids;
 mod holders;
 pub mod laws;
+mod level;
 mod linking;
 mod occupant;
 mod painting;

@@ -10,7 +10,8 @@ use Rattle.tb_grid.proofs.CutLines.{cut_after, cut_lines, halved, level_count}
 use Rattle.tb_grid.proofs.Pieces.{level_counted}
 use Rattle.tb_grid.proofs.Rises.{cut_increases}
 use Rattle.tb_grid.proofs.Shares.{cuts_are, cuts_have}
-use Rattle.tb_grid.proofs.Through.{member_cases, first_member, later_member, rising_unique}
+use Rattle.tb_grid.proofs.RisingLists.{member_cases, first_member, later_member}
+use Rattle.tb_grid.proofs.Through.{rising_unique}
 
 -- ---- intervals of a list, and of its tail
 first_interval : (p q : ℕ) (qs : List ℕ) → HasInterval (p ∷ q ∷ qs) p q
@@ -46,7 +47,7 @@ interval_cases p q a b qs h = by_index h.i h.within h.low h.high where
 base_stays : (grade p x : ℕ) (qs : List ℕ) → Contains (p ∷ qs) x → Contains (p ∷ cut_after grade p qs) x
 base_stays grade p x [] there = there
 base_stays grade p x (q ∷ qs) there =
-    ⊎_elim (λ (here : p ≡ x). rw (← here) (first_member p (cut_after grade p (q ∷ qs))))
+    ⊎_elim (λ (here : p ≡ x). rw (← here) (first_member p (cut_after grade p (q ∷ qs)) _ refl))
     (λ later. later_member p (cut_after grade p (q ∷ qs)) x
     (Contains-append_right (cuts grade p q) (q ∷ cut_after grade q qs) x (base_stays grade q x qs later)))
     (member_cases p (q ∷ qs) x there)
@@ -64,7 +65,7 @@ no_others : (grade p x : ℕ) (qs : List ℕ) → Contains (p ∷ cut_after grad
     Contains (p ∷ qs) x ⊎ IsCutPoint grade (p ∷ qs) x
 no_others grade p x [] there = inl there
 no_others grade p x (q ∷ qs) there =
-    ⊎_elim (λ (here : p ≡ x). inl (rw (← here) (first_member p (q ∷ qs))))
+    ⊎_elim (λ (here : p ≡ x). inl (rw (← here) (first_member p (q ∷ qs) _ refl)))
     (λ later. ⊎_elim
     (λ cut. inr (record { p = p; q = q; interval = first_interval p q qs; cut = cuts_are grade p q x cut }))
     (λ rest. ⊎_elim (λ base. inl (later_member p (q ∷ qs) x base))

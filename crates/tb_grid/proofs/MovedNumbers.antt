@@ -119,7 +119,7 @@ module _ (a : AxisName) (p : ℕ) (n : Counts) where
   face_within f below = let t = face_place n f in let q = moved_place a p t.place in face_number_below (cut_counts a n) t.axis q (at_face f below)
 
   pub face_placed : (f : ℕ) → f < face_count n → face_place (cut_counts a n) (moved_face a p n f) ≡ record { axis = (face_place n f).axis; place = moved_place a p (face_place n f).place }
-  face_placed f below = let t = face_place n f in let q = moved_place a p t.place in face_place_of_number (cut_counts a n) t.axis q.i q.j q.k (at_face f below)
+  face_placed f below = let t = face_place n f in let q = moved_place a p t.place in face_place_of_number (cut_counts a n) (record { axis = t.axis; place = q }) (at_face f below)
 
   pub face_apart : (f g : ℕ) → f < face_count n → g < face_count n → moved_face a p n f ≡ moved_face a p n g → f ≡ g
   face_apart f g below below' e =
@@ -135,7 +135,7 @@ module _ (a : AxisName) (p : ℕ) (n : Counts) where
       old : (o : OldPlace a p (face_place (cut_counts a n) d).place) → (f : ℕ) × (f < face_count n) × (moved_face a p n f ≡ d)
       old o = let b = (face_place (cut_counts a n) d).axis in let q = o.old in let is = o.face n b within (face_place_within (cut_counts a n) d below) in
           (face_number n b q, face_number_below n b q is,
-          ap (λ (t : FacePlace). let u = moved_place a p t.place in face_number (cut_counts a n) t.axis u) (face_place_of_number n b q.i q.j q.k is)
+          ap (λ (t : FacePlace). let u = moved_place a p t.place in face_number (cut_counts a n) t.axis u) (face_place_of_number n (record { axis = b; place = q }) is)
           ∙ ap (λ (r : Place). face_number (cut_counts a n) b r) o.is ∙ face_number_of_place (cut_counts a n) d below)
 
       by_place : (index_along a (face_place (cut_counts a n) d).place ≡ p + 1) ⊎ OldPlace a p (face_place (cut_counts a n) d).place → (index_along a (face_place (cut_counts a n) d).place ≡ p + 1) ⊎ ((f : ℕ) × (f < face_count n) × (moved_face a p n f ≡ d))
@@ -155,7 +155,7 @@ module _ (a : AxisName) (p : ℕ) (n : Counts) where
   second_placed c below here = next_place (cut_counts a n) a (moved_cell a p n c) (cell_within c below) (part_before c below here) ∙ ap (λ (q : Place). ahead a 1 q) (part_placed c below here)
 
   face_moved : (b : AxisName) (q : Place) → IsFace n b q → face_number (cut_counts a n) b (moved_place a p q) ≡ moved_face a p n (face_number n b q)
-  face_moved b q is = sym (ap (λ (t : FacePlace). face_number (cut_counts a n) t.axis (moved_place a p t.place)) (face_place_of_number n b q.i q.j q.k is))
+  face_moved b q is = sym (ap (λ (t : FacePlace). face_number (cut_counts a n) t.axis (moved_place a p t.place)) (face_place_of_number n (record { axis = b; place = q }) is))
 
   pub low_moved : (b : AxisName) (c : ℕ) → c < cell_count n → low_face_of (cut_counts a n) b (moved_cell a p n c) ≡ moved_face a p n (low_face_of n b c)
   low_moved b c below = let q = cell_place n c in ap (λ (r : Place). face_number (cut_counts a n) b r) (cell_placed c below) ∙ face_moved b q (low_face_of_cell n b q (cell_place_within n c below))

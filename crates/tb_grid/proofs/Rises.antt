@@ -3,7 +3,7 @@ use Rattle.std.proofs.Common.{◌≡◌, ℕ, zero, suc, ◌+◌, ◌-◌, ◌/�
 use Rattle.std.specs.List.Sorted.{IsStrictlyIncreasing}
 use Rattle.tb_grid.specs.CutPoints.{low_cuts, high_cuts, cuts_round, cuts}
 use Rattle.tb_grid.proofs.CutLines.{cut_after, cut_lines}
-use Rattle.tb_grid.proofs.Through.{tail_rises}
+use Rattle.tb_grid.proofs.RisingLists.{tail_rises}
 
 -- ---- rising from a line, and rising by index
 -- lines after p rise from p

@@ -5,7 +5,7 @@ use Rattle.std.specs.List.{Contains}
 use Rattle.std.proofs.lemmas.List.Elements.{Contains-append_cases, Contains-append_left, Contains-append_right}
 use Rattle.tb_grid.specs.Level.{IsCutOf, share}
 use Rattle.tb_grid.specs.CutPoints.{low_cuts, high_cuts, cuts_round, cuts}
-use Rattle.tb_grid.proofs.Through.{member_cases, first_member, later_member, no_member}
+use Rattle.tb_grid.proofs.RisingLists.{member_cases, first_member, later_member, no_member}
 
 -- half of a distance, halved i times, is the distance halved once more
 pub half_share : (c i : ℕ) → c / 2 / 2 ^ i ≡ c / 2 ^ suc i
@@ -58,7 +58,7 @@ low_have zero p c s h = absurd (none_left c s h)
 low_have (suc n) p zero s h = absurd (no_share (suc n) s h)
 low_have (suc n) p (suc c) s h =
     ⊎_elim (λ (is : s ≡ suc c).
-    rw is (Contains-append_right (low_cuts n p (suc c / 2)) ((p + suc c) ∷ []) (p + suc c) (first_member (p + suc c) [])))
+    rw is (Contains-append_right (low_cuts n p (suc c / 2)) ((p + suc c) ∷ []) (p + suc c) (first_member (p + suc c) [] _ refl)))
     (λ less. Contains-append_left (low_cuts n p (suc c / 2)) ((p + suc c) ∷ []) (p + s) (low_have n p (suc c / 2) s less))
     (share_cases n (suc c) s h)
 
@@ -81,7 +81,7 @@ pub high_have : (n q c s : ℕ) → IsShare n c s → Contains (high_cuts n q c)
 high_have zero q c s h = absurd (none_left c s h)
 high_have (suc n) q zero s h = absurd (no_share (suc n) s h)
 high_have (suc n) q (suc c) s h =
-    ⊎_elim (λ (is : s ≡ suc c). rw is (first_member (q - suc c) (high_cuts n q (suc c / 2))))
+    ⊎_elim (λ (is : s ≡ suc c). rw is (first_member (q - suc c) (high_cuts n q (suc c / 2)) _ refl))
     (λ less. later_member (q - suc c) (high_cuts n q (suc c / 2)) (q - s) (high_have n q (suc c / 2) s less))
     (share_cases n (suc c) s h)
 
@@ -142,7 +142,7 @@ round_low n p q zero (suc j) is first most some = absurd (no_half p q j is some)
 round_low n p q (suc h) (suc zero) is first most some =
     let one : share p q 1 ≡ suc h = sym is in
     rw one (Contains-append_right (low_cuts n p (suc h / 2)) ((p + suc h) ∷ high_cuts n q (suc h / 2)) (p + suc h)
-    (first_member (p + suc h) (high_cuts n q (suc h / 2))))
+    (first_member (p + suc h) (high_cuts n q (suc h / 2)) _ refl))
 round_low n p q (suc h) (suc (suc j)) is first most some =
     Contains-append_left (low_cuts n p (suc h / 2)) ((p + suc h) ∷ high_cuts n q (suc h / 2)) (p + share p q (suc (suc j)))
     (low_have n p (suc h / 2) (share p q (suc (suc j))) (later_share n p q (suc h) j is most some))

@@ -6,5 +6,3 @@ pub mod Grid
 pub mod Level
 pub mod Levels
 pub mod Views
-pub mod CutPoints
-pub mod Cuts

@@ -59,6 +59,8 @@ pub fn level_grid(alloc: Global, base: &Grid, grading: Grading) -> Result<Grid, 
     requires halve { grading.halve ≤ 6 }
     requires reach { IsWithinReach base.now }
     ensures level { AnswersLevel grading base.now result }
+    ensures grid { IfOk result IsGrid }
+    ensures base { IsGrid base.now }
     ensures flat { grading.dimension ≡ 2 → IfOk result (λ level. level.z ≡ base.now.z) }
 {
     let x = level_axis(alloc, base, grading, AxisName::X)?;

@@ -1,6 +1,6 @@
 -- The steps of reading answer what words set, each option once.
-use Rattle.std.proofs.Common.{◌≡◌, ◌≢◌, ◌↔◌, ℕ, zero, suc, ◌+◌, ◌≤◌, ◌<◌, ◌⊎◌, inl, inr, ⊎_elim, List, [], ◌∷◌, length, get_or, drop, map, Option, Some, None, Result, Ok, Err, Bool, true, false, refl, sym, ap, subst, ◌∙◌, arith}
-use Rattle.std.specs.List.{AllPairs, Contains}
+use Rattle.std.proofs.Common.{◌≡◌, ◌≢◌, ◌↔◌, ℕ, zero, suc, ◌≤◌, ◌⊎◌, inl, inr, ⊎_elim, List, [], ◌∷◌, length, get_or, drop, map, Option, Some, None, Result, Ok, Err, Bool, true, false, refl, sym, ap, subst, ◌∙◌, arith}
+use Rattle.std.specs.List.{Contains}
 use Rattle.std.specs.Prelude.{is_none, option_and_then, if◌then◌else◌, nat_le, ◌&&◌}
 use Rattle.std.specs.Result.{result_ok}
 use Rattle.std.proofs.lemmas.List.{get_or_default}
@@ -95,10 +95,11 @@ words_added o name text p is = by_option (option_of_word name) refl is where
       option_and_then (λ n. with_setting o option n) v ≡ Some p → AddsWords o name text p
   by_value option named None reads with = absurd (cc)
   by_value option named (Some n) reads with = record {
-      s = record { option = option; value = n };
-      setting = record { named = named; reads = from_ok (in_range (least_of option) (most_of option) (decimal_reading 0 text)) n reads };
-      adds = added o option n (given o option) refl p with;
-    }
+    s = record { option = option; value = n };
+    setting = record { named = named; reads = from_ok (in_range (least_of option) (most_of option) (decimal_reading 0 text)) n reads };
+    adds = added o option n (given o option) refl p with;
+  }
+
   by_option : (w : Option SolveOption) → option_of_word name ≡ w →
       option_and_then (λ option. option_and_then (λ n. with_setting o option n) (value_of_text option text)) w ≡ Some p →
       AddsWords o name text p
@@ -181,15 +182,15 @@ one_more : (o q : SolveOptions) (s t : Setting) → Adds o s.option s.value q �
     (given o t.option ≡ Some t.value) ⊎ (s ≡ t)
 one_more o q s t adds is =
     ⊎_elim (λ (same : t.option ≡ s.option).
-      let there : given q t.option ≡ Some s.value = subst (λ (c : SolveOption). given q c ≡ Some s.value) (sym same) adds.here in
-      let values : ◌≡◌ {A = Option ℕ} (Some s.value) (Some t.value) = sym there ∙ is in
-      let value : s.value ≡ t.value = cc in
-      inr (same_setting s t (sym same) value))
+    let there : given q t.option ≡ Some s.value = subst (λ (c : SolveOption). given q c ≡ Some s.value) (sym same) adds.here in
+    let values : ◌≡◌ {A = Option ℕ} (Some s.value) (Some t.value) = sym there ∙ is in
+    let value : s.value ≡ t.value = cc in
+    inr (same_setting s t (sym same) value))
     (λ apart. inl (sym (adds.others t.option apart) ∙ is)) (same_option t.option s.option) where
-  same_setting : (a b : Setting) → a.option ≡ b.option → a.value ≡ b.value → a ≡ b
-  same_setting a b options values =
-      ap (λ (c : SolveOption). record { option = c; value = a.value }) options ∙
-      ap (λ (n : ℕ). record { option = b.option; value = n }) values
+      same_setting : (a b : Setting) → a.option ≡ b.option → a.value ≡ b.value → a ≡ b
+      same_setting a b options values =
+          ap (λ (c : SolveOption). record { option = c; value = a.value }) options ∙
+          ap (λ (n : ℕ). record { option = b.option; value = n }) values
 
 kept : (o q : SolveOptions) (s t : Setting) → Adds o s.option s.value q → given o t.option ≡ Some t.value →
     given q t.option ≡ Some t.value
@@ -199,7 +200,9 @@ pub reads_on : (words : List (List ℕ)) (o p : SolveOptions) → options_after 
 reads_on [] o p is =
     let same : o ≡ p = cc in
     record {
-      settings = []; sets = nothing; once = λ i j d less within. absurd (omega arith);
+      settings = [];
+      sets = nothing;
+      once = λ i j d less within. absurd (omega arith);
       fresh = λ s there. absurd (no_member s there);
       same = λ s. (λ here. inl (rw same here), λ h. ⊎_elim (λ here. rw (← same) here) (λ there. absurd (no_member s there)) h);
     }
@@ -218,14 +221,14 @@ reads_on (name ∷ text ∷ rest) o p is = by_step (λ q. reads_on rest q p) (wi
         sets = first_sets a.setting r.sets;
         once = once_more a.s r.settings (λ t there same. apart t there (sym same)) r.once;
         fresh = λ t there. ⊎_elim (λ (here : a.s ≡ t). subst (λ (u : Setting). given o u.option ≡ None) here a.adds.fresh)
-          (λ later. sym (a.adds.others t.option (apart t later)) ∙ r.fresh t later) (member_cases a.s r.settings t there);
+            (λ later. sym (a.adds.others t.option (apart t later)) ∙ r.fresh t later) (member_cases a.s r.settings t there);
         same = λ t. (
           λ here. ⊎_elim (λ in_q. ⊎_elim (λ in_o. inl in_o)
-            (λ (is_s : a.s ≡ t). inr (subst (Contains (a.s ∷ r.settings)) is_s (first_member a.s r.settings)))
-            (one_more o q a.s t a.adds in_q))
-            (λ later. inr (later_member a.s r.settings t later)) ((r.same t).0 here),
+              (λ (is_s : a.s ≡ t). inr (subst (Contains (a.s ∷ r.settings)) is_s (first_member a.s r.settings)))
+              (one_more o q a.s t a.adds in_q))
+              (λ later. inr (later_member a.s r.settings t later)) ((r.same t).0 here),
           λ h. ⊎_elim (λ in_o. (r.same t).1 (inl (kept o q a.s t a.adds in_o)))
-            (λ there. ⊎_elim (λ (is_s : a.s ≡ t). (r.same t).1 (inl (subst (λ (u : Setting). given q u.option ≡ Some u.value) is_s a.adds.here)))
+              (λ there. ⊎_elim (λ (is_s : a.s ≡ t). (r.same t).1 (inl (subst (λ (u : Setting). given q u.option ≡ Some u.value) is_s a.adds.here)))
               (λ later. (r.same t).1 (inr later)) (member_cases a.s r.settings t there)) h,
         );
       }
@@ -258,31 +261,38 @@ are_read (first_sets {s = s} {name = name} {text = text} {words = words} {settin
     let adds : Adds o s.option s.value q = put_adds o s.option s.value none in
     rw (add_words o s name text setting none)
     (are_read rest q p (once_less s settings once)
-      (λ t there. adds.others t.option (λ e. apart_from s t settings once there (sym e)) ∙ fresh t (later_member s settings t there))
-      (λ t. (
-        λ here. ⊎_elim (λ in_o. inl (kept o q s t adds in_o))
+    (λ t there. adds.others t.option (λ e. apart_from s t settings once there (sym e)) ∙ fresh t (later_member s settings t there))
+    (λ t. (
+      λ here. ⊎_elim (λ in_o. inl (kept o q s t adds in_o))
           (λ there. ⊎_elim (λ (is_s : s ≡ t). inl (subst (λ (u : Setting). given q u.option ≡ Some u.value) is_s adds.here))
-            (λ later. inr later) (member_cases s settings t there)) ((same t).0 here),
-        λ h. (same t).1 (⊎_elim (λ in_q. ⊎_elim (λ in_o. inl in_o)
-            (λ (is_s : s ≡ t). inr (subst (Contains (s ∷ settings)) is_s (first_member s settings))) (one_more o q s t adds in_q))
+          (λ later. inr later) (member_cases s settings t there)) ((same t).0 here),
+      λ h. (same t).1 (⊎_elim (λ in_q. ⊎_elim (λ in_o. inl in_o)
+          (λ (is_s : s ≡ t). inr (subst (Contains (s ∷ settings)) is_s (first_member s settings))) (one_more o q s t adds in_q))
           (λ later. inr (later_member s settings t later)) h),
-      )))
+    )))
 
 -- ---- from no options on
 module _ (none : SolveOptions) (empty : (option : SolveOption) → given none option ≡ None) where
   pub reading_of : (words : List (List ℕ)) (o : SolveOptions) → options_after none words ≡ Some o → IsReading words o
   reading_of words o is =
       let r = reads_on words none o is in
-      record { settings = r.settings; sets = r.sets; once = r.once;
+      record {
+        settings = r.settings;
+        sets = r.sets;
+        once = r.once;
         same = λ s. (
           λ here. ⊎_elim (λ in_none. absurd (none_or_some none s.option s.option s.value (empty s.option) in_none refl)) (λ there. there) ((r.same s).0 here),
-          λ there. (r.same s).1 (inr there)) }
+          λ there. (r.same s).1 (inr there),
+        );
+      }
 
   pub reading_is : (words : List (List ℕ)) (o : SolveOptions) → IsReading words o → options_after none words ≡ Some o
   reading_is words o r =
       are_read r.sets none o r.once (λ s there. empty s.option)
-      (λ s. (λ here. inr ((r.same s).0 here),
-        λ h. ⊎_elim (λ in_none. absurd (none_or_some none s.option s.option s.value (empty s.option) in_none refl)) (λ there. (r.same s).1 there) h))
+      (λ s. (
+        λ here. inr ((r.same s).0 here),
+        λ h. ⊎_elim (λ in_none. absurd (none_or_some none s.option s.option s.value (empty s.option) in_none refl)) (λ there. (r.same s).1 there) h,
+      ))
 
 -- ---- each value is in its range
 in_range_within : (least most n : ℕ) (v : Option ℕ) → in_range least most v ≡ Ok n → (least ≤ n) × (n ≤ most)
@@ -302,7 +312,7 @@ set_within : {words : List (List ℕ)} {settings : List Setting} → Sets words 
 set_within nothing s there = absurd (no_member s there)
 set_within (first_sets {s = t} {text = text} {settings = settings} setting rest) s there =
     ⊎_elim (λ (here : t ≡ s). subst (λ (u : Setting). (least_of u.option ≤ u.value) × (u.value ≤ most_of u.option)) here
-      (in_range_within (least_of t.option) (most_of t.option) t.value (decimal_reading 0 text) setting.reads))
+    (in_range_within (least_of t.option) (most_of t.option) t.value (decimal_reading 0 text) setting.reads))
     (λ later. set_within rest s later) (member_cases t settings s there)
 
 pub reading_within : (words : List (List ℕ)) (o : SolveOptions) → IsReading words o → AreWithin o

@@ -6,6 +6,8 @@
 ghost use Rattle.std.specs.Prelude.{◌≡◌, unwrap_or};
 ghost use Rattle.tb_options.specs.Options.{usual_grade, usual_halve};
 
+#[cfg(test)]
+mod tests;
 mod words;
 
 pub use words::read_options;

@@ -1,5 +1,5 @@
 use Rattle.std.proofs.lemmas.List.{take_rest}
-use Rattle.std.proofs.Common.{◌≡◌, ◌∷◌, List, ap, get_or, Some, Global, string_bytes, drop, map, sym, ◌∙◌}
+use Rattle.std.proofs.Common.{◌≡◌, ◌∷◌, ap, get_or, Some, Global, string_bytes, drop, map, sym, ◌∙◌}
 use Rattle.tb_options.specs.Options.{option_of_word}
 use Rattle.tb_options.specs.Steps.{options_after, value_of_text, with_setting}
 use Rattle.tb_options.proofs.Readings.{read_two, two_first}
