@@ -27,11 +27,11 @@ pub fn answer_to(alloc: Global, command: Command, bytes: &[u8]) -> Result<Answer
     requires { length bytes.now ≤ most_input_bytes }
     ensures { IfOk result (Answers command bytes.now) }
 {
-    Ok(match command {
-        Command::Check => Answer::Check(check(alloc, bytes)?),
-        Command::Solve => Answer::Solve(solve(alloc, bytes)?),
-        Command::UValue => Answer::UValue(uvalue(alloc, bytes)?),
-    })
+    match command {
+        Command::Check => Ok(Answer::Check(check(alloc, bytes)?)),
+        Command::Solve => Ok(Answer::Solve(solve(alloc, bytes)?)),
+        Command::UValue => Ok(Answer::UValue(uvalue(alloc, bytes)?)),
+    }
 }
 
 /// Writes the text of an answer, and ends with its status.

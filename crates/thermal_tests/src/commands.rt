@@ -1,0 +1,179 @@
+// What a run tells of bundles, details and words. The numbers were worked out by hand or by independent programs.
+use std::alloc::{AllocError, Global};
+use std::test::Fail;
+use tb_outside::{MemorySink, SteadySource};
+use thermal_cli::run;
+
+// A wall of 1 m by 1 m by 200 mm with λ 1 W/(m·K), and the straight flux and the linear field on it.
+const BUNDLE: &str = "bundle,1\ndetail,1,3\nenv,inside\nenv,outside\nmat,wall,1\n\
+solid,wall,0.1,200.1,0,1000,0,1000\n\
+air,inside,0.13,0,0.1,0,1000,0,1000\nair,outside,0.04,200.1,200.2,0,1000,0,1000\n\
+case,inside\nx,0,0.1,200.1,200.2\ny,0,1000\nz,0,1000\n\
+t,0,64864865,10810811,0\nt,0,64864865,10810811,0\nt,0,64864865,10810811,0\nt,0,64864865,10810811,0\n\
+fz,0,0,0\nfx,0,2702702702,2702702702,0\nfy,0,0,0\nfy,0,0,0\nfz,0,0,0\n\
+interval,2702702702702700,2702702702702704\nverdict,grid,0\nend\n";
+
+// Its detail, and a blank line, which is no record.
+const DETAIL: &str = "detail,1,3\nenv,inside\nenv,outside\nmat,wall,1\n\
+solid,wall,0.1,200.1,0,1000,0,1000\n\
+air,inside,0.13,0,0.1,0,1000,0,1000\nair,outside,0.04,200.1,200.2,0,1000,0,1000\n\n";
+
+// A word, the exit code and the text that are to be told, and what stands in the place of some lines of the bundle, or
+// for the other words of the detail. A semicolon is the end of a line.
+const CASES: &str = "\
+check|0 accepted,inside,2702702702702700,2702702702702704;end;\n\
+check|0 accepted,inside,0,7692307692307693;end;|13:t,0,0,0,0|14:t,0,0,0,0|15:t,0,0,0,0|16:t,0,0,0,0|18:fx,0,0,0,0|22:interval,0,7692307692307693|23:verdict,sweeps,0\n\
+check|0 accepted,inside,2702702702702700,4637017451340115;end;|7:air,inside,0.04,0,0.1,0,1000,0,1000|8:air,outside,0.13,200.1,200.2,0,1000,0,1000|22:interval,2702702702702700,4637017451340115\n\
+check|0 accepted,inside,-368000000000000000000,2702702702702704;end;|18:fx,0,1000000000000,1000000000000,0|22:interval,-368000000000000000000,2702702702702704\n\
+check|0 accepted,inside,2702702702702700,2702702702702704;end;|10:\"x\",0,0000.1,200.1,200.2\r|22:interval,002702702702702700,2702702702702704\n\
+check|7 refused,IntervalDiffers,case 1 claimed 2702702702702701 2702702702702704 found 2702702702702700 2702702702702704;|22:interval,2702702702702701,2702702702702704\n\
+check|7 refused,Unbalanced,case 1 cell 1 sum 1;|18:fx,0,2702702702,2702702703,0\n\
+check|7 refused,Unbalanced,case 1 cell 1 sum -2000000000000;|18:fx,0,1000000000000,-1000000000000,0\n\
+check|7 refused,NotFormat,record 1;|1:bundle,2\n\
+check|7 refused,NotFormat,record 1;|1:# a remark\n\
+check|7 refused,NotFormat,record 1;|2:detail,1,2\n\
+check|7 refused,NotFormat,record 1;|5:mat,wall,0\n\
+check|7 refused,NotFormat,record 1;|5:mat,wall,500.0001\n\
+check|7 refused,NotFormat,record 1;|5:mat,wall,1e3\n\
+check|7 refused,NotFormat,record 1;|6:solid,wall,0.2,200.1,0,1000,0,1000\n\
+check|7 refused,NotFormat,record 1;|6:solid,wall,0.1,200.1,00,1000,0,1000\n\
+check|7 refused,NotFormat,record 1;|6:solid,wall,0.1,200.1,0,1000,0,1000,0\n\
+check|7 refused,NotFormat,record 1;|7:air,inside,0,0,0.1,0,1000,0,1000\n\
+check|7 refused,NotFormat,record 1;|8:air,outside,0.04,200.1,200.1,0,1000,0,1000\n\
+check|7 refused,NotFormat,record 1;|10:x,0,0.1,200.1,200.11\n\
+check|7 refused,NotFormat,record 1;|10:x,0,0.1,200.1,50000.1\n\
+check|7 refused,NotFormat,record 1;|11:y,0,0\n\
+check|7 refused,NotFormat,record 1;|13:t,0,64864865,10810811,100000001\n\
+check|7 refused,NotFormat,record 1;|13:t,0,64864865,10810811,-1\n\
+check|7 refused,NotFormat,record 1;|18:fx,0,1000000000001,1000000000001,0\n\
+check|7 refused,NotFormat,record 1;|18:fx,-0,2702702702,2702702702,0\n\
+check|7 refused,NotFormat,record 1;|19:fy,0,0,1\n\
+check|7 refused,NotFormat,record 1;|22:interval,2702702702702700,100000000000000000000000000000000000000\n\
+check|7 refused,NotFormat,record 1;|22:interval,,2702702702702704\n\
+check|7 refused,NotFormat,record 1;|23:verdict,grid,1\n\
+check|7 refused,NotFormat,record 1;|23:verdict,done,0\n\
+check|7 refused,NotFormat,record 1;|24:end;end\n\
+uvalue|0 end;\n\
+uvalue|0 end;|4:mat,wall,500\n\
+uvalue|1 refused,BadNumber,record 4 field 3;|4:mat,wall,0.00001\n\
+uvalue|1 refused,BadNumber,record 4 field 3;|4:mat,wall,1e3\n\
+uvalue|1 refused,BadNumber,record 4 field 3;|4:mat,wall,\n\
+uvalue|1 refused,OutOfRange,record 4 field 3;|4:mat,wall,500.0001\n\
+uvalue|1 refused,OutOfRange,record 4 field 3;|4:mat,wall,0\n\
+uvalue|1 refused,FieldCount,record 8;|8:solid,wall\n\
+uvalue|1 refused,NotBuilt;|8:part,wall,0.13,0.04;layer,wall,200,wall\n\
+uvalue|1 refused,EmptyPart,record 9;|8:#;part,wall,0.13,0.04\n\
+solve|1 refused,NotBuilt;\n\
+solve|1 refused,TooFewEnvironments;|3:|7:\n\
+solve|1 refused,NoSolid;|5:\n\
+solve|1 refused,Overlap,boxes 1 2;|6:air,inside,0.13,0,0.2,0,1000,0,1000\n\
+solve|1 refused,Uncovered,200 999.9 999.9;|5:solid,wall,0.1,200.1,0,1000,0,999.9;solid,wall,0.1,200.1,0,999.9,999.9,1000;solid,wall,0.1,200,999.9,1000,999.9,1000\n\
+solve|1 refused,Isolated,0.1 0 0;|6:|7:\n\
+|2 refused,Usage;\n\
+chec|2 refused,Usage;\n\
+check |2 refused,Usage;\n\
+Check|2 refused,Usage;\n\
+uvalues|2 refused,Usage;\n\
+solv|2 refused,Usage;\n\
+--help|2 refused,Usage;";
+
+// What a run tells of a word and these bytes into a sink with this room: the exit code, a space and the text.
+fn told(alloc: Global, word: &str, bytes: Vec<u8>, room: usize) -> Result<Vec<u8>, AllocError> {
+    let mut words = Vec::new(alloc);
+    words.push(String::from_str(alloc, word)?)?;
+    let mut source = SteadySource::new(bytes);
+    let Ok(mut sink) = MemorySink::new(alloc, room, Vec::new(alloc)) else {
+        return Err(AllocError);
+    };
+    let status = run(alloc, words.as_slice(), &mut source, &mut sink);
+    let mut told = Vec::new(alloc);
+    told.push(b'0' + status.code())?;
+    told.push(b' ')?;
+    told.extend_from_slice(sink.bytes())?;
+    Ok(told)
+}
+
+fn append(text: &mut Vec<u8>, lines: &str) -> Result<(), AllocError> {
+    for byte in lines.bytes() {
+        text.push(if byte == b';' { b'\n' } else { byte })?;
+    }
+    Ok(())
+}
+
+// What stands in the place of this line.
+fn change<'a>(changes: &'a str, number: usize) -> Option<&'a str> {
+    for change in changes.split('|') {
+        if let Some((place, lines)) = change.split_once(':') {
+            if place.parse() == Ok(number) {
+                return Some(lines);
+            }
+        }
+    }
+    None
+}
+
+fn input(alloc: Global, word: &str, changes: &str) -> Result<Vec<u8>, AllocError> {
+    let example = if word == "check" { BUNDLE } else { DETAIL };
+    let mut text = Vec::new(alloc);
+    for (number, line) in example.lines().enumerate() {
+        append(&mut text, change(changes, number + 1).unwrap_or(line))?;
+        text.push(b'\n')?;
+    }
+    Ok(text)
+}
+
+#[test]
+fn commands_answer(rt: HostRuntime) -> Result<(), Fail> {
+    let alloc = rt.alloc();
+    for case in CASES.lines() {
+        let (word, rest) = case.split_once('|').ok_or("no answer")?;
+        let (answer, changes) = rest.split_once('|').unwrap_or((rest, ""));
+        let mut wanted = Vec::new(alloc);
+        append(&mut wanted, answer)?;
+        let found = told(alloc, word, input(alloc, word, changes)?, 1000)?;
+        assert!(rt; found.as_slice() == wanted.as_slice(), "{case}");
+    }
+    Ok(())
+}
+
+#[test]
+fn a_bundle_that_is_cut_is_none(rt: HostRuntime) -> Result<(), Fail> {
+    let whole = BUNDLE.as_bytes();
+    for length in [
+        0,
+        1,
+        8,
+        9,
+        100,
+        whole.len().saturating_sub(5),
+        whole.len().saturating_sub(2),
+    ] {
+        let front = Vec::from_slice(rt.alloc(), whole.get(..length).unwrap_or(b""))?;
+        let found = told(rt.alloc(), "check", front, 1000)?;
+        assert!(rt;
+            found.as_slice() == b"7 refused,NotFormat,record 1\n".as_slice(),
+            "{length} bytes"
+        );
+    }
+    Ok(())
+}
+
+#[test]
+fn other_bytes_have_no_format(rt: HostRuntime) -> Result<(), Fail> {
+    for (word, code) in [("check", b'7'), ("solve", b'1'), ("uvalue", b'1')] {
+        for start in [b"".as_slice(), b"\xFF\x00"] {
+            let found = told(rt.alloc(), word, Vec::from_slice(rt.alloc(), start)?, 1000)?;
+            assert!(rt; found.first() == Some(&code), "{word}");
+            assert!(rt; found.ends_with(b" refused,NotFormat,record 1\n"), "{word}");
+        }
+    }
+    Ok(())
+}
+
+#[test]
+fn a_sink_without_room_gets_the_front(rt: HostRuntime) -> Result<(), Fail> {
+    let bundle = Vec::from_slice(rt.alloc(), BUNDLE.as_bytes())?;
+    let found = told(rt.alloc(), "check", bundle, 10)?;
+    assert!(rt; found.as_slice() == b"5 accepted,i".as_slice());
+    Ok(())
+}
