@@ -189,7 +189,7 @@ module _ (xs : List ℕ) (q : ℕ) (ys : List ℕ) (g : Gap xs q ys) where
   pub gap_ratio_is : IsRatio gap_ratio
   gap_ratio_is = is_ratio (q - get_or xs g.p 0) (get_or xs (suc g.p) 0 - q) (omega (arith, g.low)) (omega (arith, g.high))
 
-  parts_make : (q - get_or xs g.p 0) + (get_or xs (suc g.p) 0 - q) ≡ get_or xs (suc g.p) 0 - get_or xs g.p 0
+  pub parts_make : (q - get_or xs g.p 0) + (get_or xs (suc g.p) 0 - q) ≡ get_or xs (suc g.p) 0 - get_or xs g.p 0
   parts_make = omega (arith, g.low, g.high)
 
   between_lines : (k i a b : ℕ) → get_or ys i 0 ≡ a → get_or ys (suc i) 0 ≡ b → width_of ys k i ≡ ratio (pos (b - a)) k

@@ -11,3 +11,5 @@ pub mod JoinedLines
 pub mod CutMeshes
 pub mod Rescaling
 pub mod Merging
+pub mod MoreLines
+pub mod UnevenCuts

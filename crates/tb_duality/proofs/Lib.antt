@@ -16,3 +16,4 @@ pub mod BodiesInLimits
 pub mod WholeFlows
 pub mod TermCounts
 pub mod BodyEnds
+pub mod Masks

@@ -1,11 +1,12 @@
 // The case of the other environments: the same heat flow, the other way round.
-ghost use Rattle.std.specs.Prelude.{◌≡◌};
+ghost use Rattle.std.specs.Prelude.{◌≡◌, ◌<◌, ◌-◌, ◌^◌, ℕ, length};
 ghost use Rattle.tb_detail.specs.declared.Detail.{Detail};
 ghost use Rattle.tb_detail.specs.Limits.{InLimits};
 ghost use Rattle.tb_model.specs.Complements.{AreComplements, AreComplementsOn, turned_field, turned_flux};
 ghost use Rattle.tb_model.specs.Energy.{Case, Field, Flux, IsBalanced, energy, bound};
 ghost use Rattle.tb_model.specs.Mesh.{Mesh};
 ghost use Rattle.tb_model.specs.Refinement.{Refinement, mesh, scene_of};
+ghost use Rattle.tb_model.specs.Values.{case_of};
 
 /// In the case of the other environments, the field that is left to 1 has the same energy. Of a balanced flux, the flux
 /// the other way is balanced and has the same bound. Only the environments that the mesh has a surface to matter.
@@ -22,4 +23,10 @@ pub fn complements_agree()
 pub fn details_have_complements()
     ensures { (d : Detail) (r : Refinement) (inside others : Case) → InLimits d → AreComplements d inside others →
         AreComplementsOn (mesh (scene_of d) r) inside others }
+{}
+
+/// Of n environments, the mask 2ⁿ - 1 - m has just those that the mask m doesn't have.
+pub fn masks_have_complements()
+    ensures { (d : Detail) (mask : ℕ) → mask < 2 ^ length d.environments →
+        AreComplements d (case_of mask) (case_of (2 ^ length d.environments - 1 - mask)) }
 {}
