@@ -12,7 +12,7 @@ use Rattle.tb_grid.specs.Levels.{AnswersLevel, IsLevelOf, IsWithinReach, grade_a
 use Rattle.tb_grid.specs.declared.levels.LevelFault.{LevelFault}
 use Rattle.tb_grid.specs.declared.levels.Grading.{Grading}
 use Rattle.tb_grid.proofs.Carries.{level_first, level_has_all, level_last}
-use Rattle.tb_grid.proofs.Through.{member_cases, no_member}
+use Rattle.tb_grid.proofs.RisingLists.{member_cases, no_member}
 use Rattle.tb_model.specs.Refinement.{high, low}
 use Rattle.tb_geometry.specs.Base.{base_axes, base_lines, coordinates}
 use Rattle.tb_geometry.specs.Bodies.{HasHolders}

@@ -5,13 +5,13 @@ ghost use Rattle.tb_places.specs.Places.{IsCell, cell_count, face_count};
 ghost use Rattle.tb_detail.specs.Limits.{InLimits};
 ghost use Rattle.tb_grid.specs.Grid.{counts_of};
 ghost use Rattle.tb_plain.specs.Plain.{IsFaceAt, IsPlain, mesh_of};
-ghost use Rattle.tb_geometry.specs.Seen.{CarriesBody};
+ghost use Rattle.tb_geometry.specs.Grids.{CarriesBody};
 
 use std::alloc::{AllocError, Global};
 use std::test::Fail;
 use tb_detail::{Content, Detail};
 use tb_geometry::{Body, Occupant};
-use tb_grid::{Axis, AxisName, CellId, FaceId, Grid, GridPlace, other_axes};
+use tb_grid::{Axis, AxisName, CellId, FaceId, Grid, Place, other_axes};
 use tb_plain::{Place, PlainGrid, Site};
 use tb_text::read_detail;
 
@@ -49,7 +49,7 @@ fn cells(plain: &PlainGrid, axis: AxisName) -> usize
 }
 
 fn is_cell(plain: &PlainGrid, place: Place) -> bool
-    ensures { IsTrue result → IsCell (mesh_of plain.now).cells place.i place.j place.k }
+    ensures { IsTrue result → IsCell (mesh_of plain.now).cells place }
 {
     place.i < cells(plain, AxisName::X)
         && place.j < cells(plain, AxisName::Y)
@@ -84,7 +84,7 @@ fn is_same_cell(body: &Body, grid: &Grid, plain: &PlainGrid, cell: CellId) -> bo
     requires cell { cell.0 < cell_count (counts_of grid.now) }
     requires plain { IsPlain plain.now }
 {
-    let GridPlace { i, j, k } = grid.counts().cell_place(cell);
+    let Place { i, j, k } = grid.counts().cell_place(cell);
     let place = Place {
         i: i as usize,
         j: j as usize,
