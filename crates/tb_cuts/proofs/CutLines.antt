@@ -1,7 +1,6 @@
 -- The four regimes of a cut line, and the two additions that follow it: a term cut in two, and one put in.
 use mathlib.Core.Path.{◌≡◌, refl, ◌∙◌, sym, subst}
 use Prim.Native.Nat.{ℕ, zero, suc, ◌<◌, ◌≤◌}
-use native.Mathlib.Omega.{arith}
 use mathlib.Core.Path.{ap₂}
 use mathlib.Core.List.{[], ◌∷◌}
 use mathlib.Core.Logic.{◌⊎◌, inl, inr}

@@ -12,7 +12,7 @@ use Rattle.tb_math.proofs.DivisionLaws.{inverse-mul, inverse-cancel}
 use Rattle.tb_math.proofs.ReadRationals.{by_reading, by_given, reading, none, given}
 use Rattle.tb_model.specs.Energy.{spread, passage, cell_energy, surface_energy, cell_loss, surface_loss}
 use Rattle.tb_model.specs.Cuts.{IsRatio, rest, between}
-use Rattle.tb_cuts.proofs.CutForms.{passage_cut, spread_first, spread_second, spread_shared, passage_shared, square_shared}
+use Rattle.tb_cuts.proofs.CutForms.{passage_cut, spread_shared, passage_shared, square_shared}
 
 -- Linear values --
 

@@ -1,17 +1,15 @@
 -- One line more in a given interval: the mesh of the refinement is the cut of its mesh there.
-use mathlib.Core.Path.{◌≡◌, refl, sym, ap, ◌∙◌, subst}
+use mathlib.Core.Path.{◌≡◌, refl, ap, ◌∙◌}
 use mathlib.Core.Logic.{◌⊎◌, inl, inr}
-use Prim.Native.Nat.{ℕ, suc, ◌-◌, ◌+◌, ◌<◌, ◌≤◌}
+use Prim.Native.Nat.{ℕ, suc, ◌-◌, ◌<◌, ◌≤◌}
 use native.Mathlib.Omega.{arith}
 use lib.IntN.{pos}
 use lib.ListN.{get_or, length}
 use mathlib.Core.List.{List}
-use Rattle.std.specs.List.{Contains}
 use Rattle.std.specs.List.Sorted.{IsStrictlyIncreasing}
-use Rattle.std.proofs.lemmas.List.{get_or_default}
 use Rattle.std.proofs.lemmas.List.Kept.{AllPairs-from_increasing}
 use Rattle.std.proofs.Math.Nat.{eq-or-lt_of_le}
-use Rattle.tb_math.specs.Rational.{ℚ, ratio}
+use Rattle.tb_math.specs.Rational.{ratio}
 use Rattle.tb_places.specs.declared.AxisName.{AxisName}
 use Rattle.tb_model.specs.Cuts.{cut}
 use Rattle.tb_model.specs.Merges.{with_line, relined}

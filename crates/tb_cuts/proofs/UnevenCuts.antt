@@ -6,7 +6,7 @@ use native.Mathlib.Omega.{arith}
 use lib.IntN.{pos}
 use Rattle.std.specs.Prelude.{Some}
 use Rattle.tb_math.specs.Fraction.{leF}
-use Rattle.tb_math.specs.Rational.{int, one_over, ratio, ◌+ℚ◌, ◌*ℚ◌, neg_ℚ, leq, ◌≤ℚ◌, ◌<ℚ◌}
+use Rattle.tb_math.specs.Rational.{int, one_over, ◌+ℚ◌, ◌*ℚ◌, neg_ℚ, leq, ◌≤ℚ◌, ◌<ℚ◌}
 use Rattle.tb_math.specs.Division.{inverse}
 use Rattle.tb_math.proofs.RationalOrder.{≤ℚ-refl}
 use Rattle.tb_math.proofs.ReadRationals.{by_reading, reading}

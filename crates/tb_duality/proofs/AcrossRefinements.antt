@@ -1,5 +1,5 @@
 -- Weak duality on two refinements: field and flux are carried to the merge of the two, where they meet.
-use mathlib.Core.Path.{◌≡◌, subst}
+use mathlib.Core.Path.{subst}
 use lib.Signed.{◌≤ℤ◌}
 use Rattle.tb_math.specs.Rational.{ℚ, int, ◌≤ℚ◌}
 use Rattle.tb_math.proofs.RationalOrder.{≤ℚ-trans}

@@ -1,17 +1,15 @@
 -- What a detail within limits is made of is positive, and each environment that its meshes have a surface to is one of
 -- its own.
-use mathlib.Core.Path.{◌≡◌, refl, subst}
+use mathlib.Core.Path.{◌≡◌}
 use mathlib.Core.List.{List, [], ◌∷◌, map}
 use Prim.Native.Nat.{ℕ, zero, suc, ◌<◌, ◌≤◌}
 use native.Mathlib.Omega.{arith}
 use Rattle.std.proofs.lemmas.Int.{ints}
 use lib.IntN.{pos}
 use lib.ListN.{get_or, length}
-use Rattle.std.specs.Prelude.{Some, Bool}
+use Rattle.std.specs.Prelude.{Some}
 use Rattle.std.specs.List.{All}
 use Rattle.tb_math.proofs.StrictOrder.{<ℚ-int}
-use Rattle.tb_places.specs.declared.AxisName.{AxisName}
-use Rattle.tb_places.specs.Places.{second, third}
 use Rattle.tb_detail.specs.declared.Content.{Content}
 use Rattle.tb_detail.specs.declared.Content.TheVariants.{Solid, Air}
 use Rattle.tb_detail.specs.declared.Detail.{Detail}

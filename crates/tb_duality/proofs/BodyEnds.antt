@@ -1,5 +1,4 @@
 -- The two ends of a field and a balanced flux on grids that carry an accepted body: sound, and within the number of terms.
-use mathlib.Core.Path.{◌≡◌, refl}
 use lib.IntN.{ℤ, pos, ◌-ℤ◌}
 use lib.Signed.{◌≤ℤ◌}
 use Rattle.std.proofs.lemmas.Int.{ints}

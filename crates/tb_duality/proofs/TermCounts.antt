@@ -1,12 +1,12 @@
 -- An accepted body has a solid cell on each grid that carries it, and so at least one term: a solid box fills the cell at
 -- its low corner.
-use mathlib.Core.Path.{◌≡◌, refl, sym, ap, ◌∙◌, subst}
+use mathlib.Core.Path.{◌≡◌, sym, ap, ◌∙◌, subst}
 use mathlib.Core.Logic.{◌⊎◌, inl, inr}
 use mathlib.Core.List.{List}
 use Prim.Native.Nat.{ℕ, zero, suc, ◌+◌, ◌-◌, ◌<◌, ◌≤◌}
 use native.Mathlib.Omega.{arith}
 use lib.ListN.{get_or, length}
-use Rattle.std.specs.Prelude.{Option, Some}
+use Rattle.std.specs.Prelude.{Some}
 use Rattle.std.specs.Option.{option_map}
 use Rattle.std.specs.List.{Contains}
 use Rattle.std.proofs.Math.Nat.{eq-or-lt_of_le}
@@ -19,7 +19,6 @@ use Rattle.tb_detail.specs.declared.Content.TheVariants.{Solid}
 use Rattle.tb_detail.specs.declared.Detail.{Detail}
 use Rattle.tb_detail.specs.declared.SpaceBox.{SpaceBox}
 use Rattle.tb_detail.specs.Limits.{InLimits}
-use Rattle.tb_grid.specs.Axis.{IsLineAt}
 use Rattle.tb_grid.specs.Grid.{Axes}
 use Rattle.tb_model.specs.Energy.{Terms, of_solid, line_sum, axis_sum, number_of_terms}
 use Rattle.tb_model.specs.Mesh.{Mesh}

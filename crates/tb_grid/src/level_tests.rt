@@ -1,4 +1,7 @@
 // Expected lines were made from the set of cut points by another program.
+ghost use Rattle.std.specs.Prelude.{IfOk};
+ghost use Rattle.tb_grid.specs.Levels.{IsWithinReach};
+
 use super::*;
 use std::alloc::Global;
 use std::process::Abort;
@@ -41,11 +44,22 @@ fn lines_of_a_level_grid(rt: HostRuntime) -> Result<(), Fail> {
 #[test]
 fn a_corner_of_two_walls(rt: HostRuntime) -> Result<(), Fail> {
     let alloc = rt.alloc();
-    let x = level(&rt, alloc, &[0, 1, 1001, 3001, 13001], 4, 1)??;
-    let y = x.clone()?;
-    let grid = Grid::new(x, y, Axis::new([0, 10_000].to_vec(alloc)?)?)?;
-    let counts = grid.counts();
-    assert_eq!(rt; (counts.x, counts.y, counts.z), (49, 49, 1));
+    let corner = [0, 1, 1001, 3001, 13001].as_slice();
+    let base = base_grid(&rt, alloc, corner, corner)?;
+    for (grade, halve, dimension, want) in [
+        (4, 1, 2, (49, 49, 1)),
+        (2, 0, 3, (13, 13, 4)),
+        (0, 0, 3, (4, 4, 1)),
+    ] {
+        let grading = Grading {
+            grade,
+            halve,
+            dimension,
+        };
+        assert!(rt; grading.halve <= 6);
+        let counts = level_grid(alloc, &base, grading)?.counts();
+        assert_eq!(rt; (counts.x, counts.y, counts.z), want);
+    }
     Ok(())
 }
 
@@ -65,14 +79,10 @@ fn lines_are_counted_beyond_the_most(rt: HostRuntime) -> Result<(), Fail> {
     Ok(())
 }
 
-// Why the level grid of base lines is too large, at the greatest grade and number of halvings.
-fn too_large(
-    rt: &impl Abort,
-    alloc: Global,
-    x: &[u32],
-    y: &[u32],
-    dimension: u8,
-) -> Result<Option<LevelFault>, Fail> {
+// The base grid with these lines along x and y, one metre high.
+fn base_grid(rt: &impl Abort, alloc: Global, x: &[u32], y: &[u32]) -> Result<Grid, Fail>
+    ensures { IfOk result IsWithinReach }
+{
     assert!(rt; x.len() < 10);
     assert!(rt; y.len() < 10);
     let x = Axis::new(x.to_vec(alloc)?)?;
@@ -81,13 +91,7 @@ fn too_large(
     assert!(rt; x.lines()[x.lines().len() - 1] <= 500_000);
     assert!(rt; y.lines()[y.lines().len() - 1] <= 500_000);
     assert!(rt; z.lines()[z.lines().len() - 1] <= 500_000);
-    let base = Grid::new(x, y, z)?;
-    let grading = Grading {
-        grade: 12,
-        halve: 6,
-        dimension,
-    };
-    Ok(level_grid(alloc, &base, grading).err())
+    Ok(Grid::new(x, y, z)?)
 }
 
 #[test]
@@ -102,7 +106,13 @@ fn level_grids_that_are_too_large(rt: HostRuntime) -> Result<(), Fail> {
         (corner, corner, 2, GridTooLarge::Lines(AxisName::X, 2066)),
         (wall, corner, 3, GridTooLarge::Lines(AxisName::Y, 2066)),
     ] {
-        let fault = too_large(&rt, alloc, x, y, dimension)?;
+        let base = base_grid(&rt, alloc, x, y)?;
+        let grading = Grading {
+            grade: 12,
+            halve: 6,
+            dimension,
+        };
+        let fault = level_grid(alloc, &base, grading).err();
         assert_eq!(rt; fault, Some(LevelFault::TooLarge(want)));
     }
     Ok(())

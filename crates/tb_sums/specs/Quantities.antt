@@ -3,7 +3,7 @@
 -- A cell may be cut along the axis of its term, and a cell and a face across it, in two parts that are s and 1 - s of the
 -- whole.
 use Rattle.std.specs.Prelude.{ℕ}
-use Rattle.tb_math.specs.Rational.{ℚ, int, ◌*ℚ◌}
+use Rattle.tb_math.specs.Rational.{ℚ, ◌*ℚ◌}
 use Rattle.tb_model.specs.Cuts.{rest, between}
 use Rattle.tb_model.specs.Energy.{spread, passage, cell_energy, surface_energy, cell_loss, surface_loss}
 
@@ -87,12 +87,16 @@ high_end high s x y = y
 -- the linear values at the corners of a part of a cross-section
 abbrev pub corners_of_part : FaceCut → Part → ℚ → Corners → Corners
 corners_of_part across_b p s d = record {
-  d00 = low_end p s d.d00 d.d10; d10 = high_end p s d.d00 d.d10;
-  d01 = low_end p s d.d01 d.d11; d11 = high_end p s d.d01 d.d11;
+  d00 = low_end p s d.d00 d.d10;
+  d10 = high_end p s d.d00 d.d10;
+  d01 = low_end p s d.d01 d.d11;
+  d11 = high_end p s d.d01 d.d11;
 }
 corners_of_part across_c p s d = record {
-  d00 = low_end p s d.d00 d.d01; d10 = low_end p s d.d10 d.d11;
-  d01 = high_end p s d.d00 d.d01; d11 = high_end p s d.d10 d.d11;
+  d00 = low_end p s d.d00 d.d01;
+  d10 = low_end p s d.d10 d.d11;
+  d01 = high_end p s d.d00 d.d01;
+  d11 = high_end p s d.d10 d.d11;
 }
 
 -- a share of each difference

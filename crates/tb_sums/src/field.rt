@@ -43,7 +43,6 @@ pub struct FieldFace {
 
 impl Functional for FieldCell {
     ghost use Rattle.tb_sums.specs.Terms.{FitsFieldCell, field_cell_term, cell_of_field};
-
     ghost use Rattle.std.specs.Prelude.{refl};
     ghost use Rattle.tb_sums.specs.CutLaws.{field_cell_parts};
     ghost use Rattle.tb_sums.specs.Quantities.{Cell, Corners, energy_of_cell, CellCut, field_cell_part};
@@ -82,7 +81,6 @@ impl Functional for FieldCell {
 
 impl Functional for FieldFace {
     ghost use Rattle.tb_sums.specs.Terms.{FitsFieldFace, field_face_term, face_of_field};
-
     ghost use Rattle.std.specs.Prelude.{refl};
     ghost use Rattle.tb_sums.specs.CutLaws.{field_face_parts};
     ghost use Rattle.tb_sums.specs.Quantities.{Face, Corners, energy_of_face, FaceCut, field_face_part};

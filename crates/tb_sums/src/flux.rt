@@ -41,7 +41,6 @@ pub struct FluxFace {
 
 impl Functional for FluxCell {
     ghost use Rattle.tb_sums.specs.Terms.{FitsFluxCell, flux_cell_term, cell_of_flux};
-
     ghost use Rattle.std.specs.Prelude.{refl};
     ghost use Rattle.tb_sums.specs.CutLaws.{flux_cell_parts};
     ghost use Rattle.tb_sums.specs.Quantities.{Cell, Ends, loss_of_cell, CellCut, flux_cell_part};
@@ -79,7 +78,6 @@ impl Functional for FluxCell {
 
 impl Functional for FluxFace {
     ghost use Rattle.tb_sums.specs.Terms.{FitsFluxFace, flux_face_term, face_of_flux};
-
     ghost use Rattle.std.specs.Prelude.{refl};
     ghost use Rattle.tb_math.specs.Rational.{ℚ};
     ghost use Rattle.tb_sums.specs.CutLaws.{flux_face_parts};

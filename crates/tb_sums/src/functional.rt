@@ -23,11 +23,14 @@ pub trait Functional {
 
     // what a term depends on, as rational numbers without limits: of this term, and the value of such a term
     ghost Quantities: { Type 0 };
+
     ghost quantities: { Self → Quantities };
+
     ghost value_of: { Quantities → ℚ };
 
     // how what a term stands for may be cut, and what a part has of it at a ratio
     ghost Cut: { Type 0 };
+
     ghost part_of: { Cut → Part → ℚ → Quantities → Quantities };
 
     /// The numerator of the term. It isn't negative.
