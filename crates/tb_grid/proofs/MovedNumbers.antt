@@ -43,10 +43,12 @@ module _ (a : AxisName) (p : ℕ) (n : Counts) where
   cell_all d within below = by_place (old_place a p (cell_place (cut_counts a n) d))
     where
       old : (o : OldPlace a p (cell_place (cut_counts a n) d)) → (c : ℕ) × (c < cell_count n) × (moved_cell a p n c ≡ d)
-      old o = let q = o.old in let is = o.cell n within (cell_place_within (cut_counts a n) d below) in
-          (cell_number n q, cell_number_below n q is,
-          ap (λ (r : Place). let u = moved_place a p r in cell_number (cut_counts a n) u) (cell_place_of_number n q is)
-          ∙ ap (λ (r : Place). cell_number (cut_counts a n) r) o.is ∙ cell_number_of_place (cut_counts a n) d)
+      old o = let q = o.old in let is = o.cell n within (cell_place_within (cut_counts a n) d below) in (
+        cell_number n q,
+        cell_number_below n q is,
+        ap (λ (r : Place). let u = moved_place a p r in cell_number (cut_counts a n) u) (cell_place_of_number n q is)
+            ∙ ap (λ (r : Place). cell_number (cut_counts a n) r) o.is ∙ cell_number_of_place (cut_counts a n) d,
+      )
 
       by_place : (index_along a (cell_place (cut_counts a n) d) ≡ p + 1) ⊎ OldPlace a p (cell_place (cut_counts a n) d) → (index_along a (cell_place (cut_counts a n) d) ≡ p + 1) ⊎ ((c : ℕ) × (c < cell_count n) × (moved_cell a p n c ≡ d))
       by_place (inl e) = inl e
@@ -72,10 +74,12 @@ module _ (a : AxisName) (p : ℕ) (n : Counts) where
   node_all d within below = by_place (old_place a p (node_place (cut_counts a n) d))
     where
       old : (o : OldPlace a p (node_place (cut_counts a n) d)) → (m : ℕ) × (m < node_count n) × (moved_node a p n m ≡ d)
-      old o = let q = o.old in let is = o.node n within (node_place_within (cut_counts a n) d below) in
-          (node_number n q, node_number_below n q is,
-          ap (λ (r : Place). let u = moved_place a p r in node_number (cut_counts a n) u) (node_place_of_number n q is)
-          ∙ ap (λ (r : Place). node_number (cut_counts a n) r) o.is ∙ node_number_of_place (cut_counts a n) d)
+      old o = let q = o.old in let is = o.node n within (node_place_within (cut_counts a n) d below) in (
+        node_number n q,
+        node_number_below n q is,
+        ap (λ (r : Place). let u = moved_place a p r in node_number (cut_counts a n) u) (node_place_of_number n q is)
+            ∙ ap (λ (r : Place). node_number (cut_counts a n) r) o.is ∙ node_number_of_place (cut_counts a n) d,
+      )
 
       by_place : (index_along a (node_place (cut_counts a n) d) ≡ p + 1) ⊎ OldPlace a p (node_place (cut_counts a n) d) → (index_along a (node_place (cut_counts a n) d) ≡ p + 1) ⊎ ((m : ℕ) × (m < node_count n) × (moved_node a p n m ≡ d))
       by_place (inl e) = inl e
@@ -101,10 +105,12 @@ module _ (a : AxisName) (p : ℕ) (n : Counts) where
   edge_all b d within below = by_place (old_place a p (edge_place (cut_counts a n) b d))
     where
       old : (o : OldPlace a p (edge_place (cut_counts a n) b d)) → (e : ℕ) × (e < edge_count n b) × (moved_edge a p n b e ≡ d)
-      old o = let q = o.old in let is = o.edge n b within (edge_place_within (cut_counts a n) b d below) in
-          (edge_number n b q, edge_number_below n b q is,
-          ap (λ (r : Place). let u = moved_place a p r in edge_number (cut_counts a n) b u) (edge_place_of_number n b q is)
-          ∙ ap (λ (r : Place). edge_number (cut_counts a n) b r) o.is ∙ edge_number_of_place (cut_counts a n) b d)
+      old o = let q = o.old in let is = o.edge n b within (edge_place_within (cut_counts a n) b d below) in (
+        edge_number n b q,
+        edge_number_below n b q is,
+        ap (λ (r : Place). let u = moved_place a p r in edge_number (cut_counts a n) b u) (edge_place_of_number n b q is)
+            ∙ ap (λ (r : Place). edge_number (cut_counts a n) b r) o.is ∙ edge_number_of_place (cut_counts a n) b d,
+      )
 
       by_place : (index_along a (edge_place (cut_counts a n) b d) ≡ p + 1) ⊎ OldPlace a p (edge_place (cut_counts a n) b d) → (index_along a (edge_place (cut_counts a n) b d) ≡ p + 1) ⊎ ((e : ℕ) × (e < edge_count n b) × (moved_edge a p n b e ≡ d))
       by_place (inl e) = inl e
@@ -133,10 +139,12 @@ module _ (a : AxisName) (p : ℕ) (n : Counts) where
   face_all d within below = by_place (old_place a p (face_place (cut_counts a n) d).place)
     where
       old : (o : OldPlace a p (face_place (cut_counts a n) d).place) → (f : ℕ) × (f < face_count n) × (moved_face a p n f ≡ d)
-      old o = let b = (face_place (cut_counts a n) d).axis in let q = o.old in let is = o.face n b within (face_place_within (cut_counts a n) d below) in
-          (face_number n b q, face_number_below n b q is,
-          ap (λ (t : FacePlace). let u = moved_place a p t.place in face_number (cut_counts a n) t.axis u) (face_place_of_number n (record { axis = b; place = q }) is)
-          ∙ ap (λ (r : Place). face_number (cut_counts a n) b r) o.is ∙ face_number_of_place (cut_counts a n) d below)
+      old o = let b = (face_place (cut_counts a n) d).axis in let q = o.old in let is = o.face n b within (face_place_within (cut_counts a n) d below) in (
+        face_number n b q,
+        face_number_below n b q is,
+        ap (λ (t : FacePlace). let u = moved_place a p t.place in face_number (cut_counts a n) t.axis u) (face_place_of_number n (record { axis = b; place = q }) is)
+            ∙ ap (λ (r : Place). face_number (cut_counts a n) b r) o.is ∙ face_number_of_place (cut_counts a n) d below,
+      )
 
       by_place : (index_along a (face_place (cut_counts a n) d).place ≡ p + 1) ⊎ OldPlace a p (face_place (cut_counts a n) d).place → (index_along a (face_place (cut_counts a n) d).place ≡ p + 1) ⊎ ((f : ℕ) × (f < face_count n) × (moved_face a p n f ≡ d))
       by_place (inl e) = inl e

@@ -1,0 +1,5 @@
+pub mod Bounds
+pub mod Parts
+pub mod Printed
+pub mod Sections
+pub mod Transmittance
