@@ -89,7 +89,8 @@ impl<'a> RecordReader<'a> {
     /// How many records there are in all, where none is left.
     pub fn total(&self) -> u32
         requires { self.now.ahead ≡ [] }
-        ensures { result ≡ self.now.total }
+        ensures total { result ≡ self.now.total }
+        ensures few { result ≤ 268435456 }
     {
         self.number
     }

@@ -1,0 +1,4 @@
+pub mod AllCases
+pub mod DetailPart
+pub mod Judging
+pub mod Wholes
