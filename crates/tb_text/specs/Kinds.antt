@@ -68,14 +68,15 @@ field_count kind.Chi = Exactly 4
 field_count kind.Area = Exactly 4
 field_count kind.Line = Exactly 5
 
--- the kind of name that a record declares in its second field
+-- the kind of name that a field declares, if there is one that does
+abbrev pub declared_in : List FieldRule → Option NameKind
+declared_in [] = None
+declared_in (Declares k ∷ rules) = Some k
+declared_in (_ ∷ rules) = declared_in rules
+
+-- the kind of name that a record declares
 abbrev pub declares : RecordKind → Option NameKind
-declares kind.Environment = Some name.Environment
-declares kind.Material = Some name.Material
-declares kind.Part = Some name.Part
-declares kind.Psi = Some name.Psi
-declares kind.Chi = Some name.Chi
-declares _ = None
+declares k = declared_in (fields k)
 
 -- whether a record stands in a detail of this dimension
 abbrev pub is_allowed : ℕ → RecordKind → Bool

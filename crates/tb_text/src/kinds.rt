@@ -147,7 +147,7 @@ impl RecordKind {
         }
     }
 
-    /// The kind of the name that such a record declares in its second field.
+    /// The kind of the name that such a record declares.
     pub fn declares(self) -> Option<NameKind>
         ensures { result ≡ declares self }
     {
