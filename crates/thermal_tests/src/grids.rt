@@ -1,7 +1,7 @@
 // A body on a grid with lines between its base lines, compared with the plain program, which looks for the
 // box of each cell.
 ghost use Rattle.std.specs.Prelude.{◌≡◌, ◌<◌, ◌≤◌, IfOk, IsTrue, length};
-ghost use Rattle.tb_places.specs.Places.{IsCell, cell_count, face_count};
+ghost use Rattle.tb_places.specs.Places.{IsCell, cell_count, face_count, place_at};
 ghost use Rattle.tb_detail.specs.Limits.{InLimits};
 ghost use Rattle.tb_grid.specs.Grid.{counts_of};
 ghost use Rattle.tb_plain.specs.Plain.{IsFaceAt, IsPlain, mesh_of};
@@ -11,7 +11,7 @@ use std::alloc::{AllocError, Global};
 use std::test::Fail;
 use tb_detail::{Content, Detail};
 use tb_geometry::{Body, Occupant};
-use tb_grid::{Axis, AxisName, CellId, FaceId, Grid, Place, other_axes};
+use tb_grid::{Axis, AxisName, CellId, FaceId, Grid, other_axes};
 use tb_plain::{Place, PlainGrid, Site};
 use tb_text::read_detail;
 
@@ -49,7 +49,7 @@ fn cells(plain: &PlainGrid, axis: AxisName) -> usize
 }
 
 fn is_cell(plain: &PlainGrid, place: Place) -> bool
-    ensures { IsTrue result → IsCell (mesh_of plain.now).cells place }
+    ensures { IsTrue result → IsCell (mesh_of plain.now).cells (place_at place.i place.j place.k) }
 {
     place.i < cells(plain, AxisName::X)
         && place.j < cells(plain, AxisName::Y)
@@ -84,11 +84,11 @@ fn is_same_cell(body: &Body, grid: &Grid, plain: &PlainGrid, cell: CellId) -> bo
     requires cell { cell.0 < cell_count (counts_of grid.now) }
     requires plain { IsPlain plain.now }
 {
-    let Place { i, j, k } = grid.counts().cell_place(cell);
+    let at = grid.counts().cell_place(cell);
     let place = Place {
-        i: i as usize,
-        j: j as usize,
-        k: k as usize,
+        i: at.i as usize,
+        j: at.j as usize,
+        k: at.k as usize,
     };
     is_cell(plain, place)
         && is_filled_so(
