@@ -1,6 +1,7 @@
 //! Thermal transmittances of planar parts by ISO 6946:2017, in whole numbers on both sides.
 //!
-//! Nothing here takes memory.
+//! Nothing here takes memory. All numbers fit 128 bits: resistances lie in 2·10¹² to 10²³ units of 10⁻¹⁶ m²K/W and
+//! transmittances in 10⁸ to 5·10¹⁸ fW/(m²·K), so no product is above 2·10²⁸ and no dividend above 2·10³¹.
 #![tactic(auto)]
 
 mod bounds;
