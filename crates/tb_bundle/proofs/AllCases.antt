@@ -3,7 +3,7 @@ use Rattle.std.proofs.Common.{◌≡◌, ◌∙◌, ap, refl, sym, subst, ℕ, �
 use Rattle.std.proofs.lemmas.List.{append-nil, drop_all, drop_more}
 use Rattle.tb_detail.specs.declared.Detail.{Detail}
 use Rattle.tb_detail.specs.Names.{Text}
-use Rattle.tb_text.specs.Reading.{Numbered}
+use Rattle.tb_reading.specs.Reading.{Numbered}
 use Rattle.tb_case_records.specs.declared.case.CaseProof.{CaseProof}
 use Rattle.tb_case_records.specs.declared.fault.BundleRefusal.{BundleRefusal}
 use Rattle.tb_bundle.specs.declared.body.Body.{Body}

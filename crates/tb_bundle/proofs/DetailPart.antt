@@ -1,16 +1,16 @@
 -- The records of a detail up to the first of the body.
 use Rattle.std.proofs.Common.{◌≡◌, ◌∙◌, ap, refl, sym, subst, ℕ, suc, ◌+◌, ◌++◌, ◌∷◌, Bool, true, false, List, [], drop, take, Option, Some, None, Result, Ok, Err, append_assoc, arith, option_map}
 use Rattle.tb_detail.specs.declared.Detail.{Detail}
-use Rattle.tb_text.proofs.First.{fault_stays}
-use Rattle.tb_text.specs.Builders.{Feeds, Stands}
-use Rattle.tb_text.specs.Progress.{Progress}
-use Rattle.tb_text.specs.Reading.{Answers, Numbered, detail_reading, first_record_fault, rows_of, whole_fault}
-use Rattle.tb_text.specs.Details.{head_of}
-use Rattle.tb_text.specs.Records.{Row}
-use Rattle.tb_text.specs.declared.fault.DetailKind.TheVariants.{NotFormat}
-use Rattle.tb_text.specs.declared.fault.DetailFault.{DetailFault}
-use Rattle.tb_text.specs.declared.fault.DetailRefusal.{DetailRefusal}
-use Rattle.tb_text.specs.declared.fault.DetailRefusal.TheVariants as detail_refusal
+use Rattle.tb_reading.proofs.First.{fault_stays}
+use Rattle.tb_reading.specs.Builders.{Feeds, Stands}
+use Rattle.tb_reading.specs.Progress.{Progress}
+use Rattle.tb_reading.specs.Reading.{Answers, Numbered, detail_reading, first_record_fault, rows_of, whole_fault}
+use Rattle.tb_reading.specs.Details.{head_of}
+use Rattle.tb_reading.specs.Records.{Row}
+use Rattle.tb_reading.specs.declared.fault.DetailKind.TheVariants.{NotFormat}
+use Rattle.tb_reading.specs.declared.fault.DetailFault.{DetailFault}
+use Rattle.tb_reading.specs.declared.fault.DetailRefusal.{DetailRefusal}
+use Rattle.tb_reading.specs.declared.fault.DetailRefusal.TheVariants as detail_refusal
 use Rattle.tb_case_records.specs.declared.fault.BundleFault.TheVariants as bundle
 use Rattle.tb_case_records.specs.declared.fault.BundleRefusal.{BundleRefusal}
 use Rattle.tb_case_records.specs.declared.fault.BundleRefusal.TheVariants as refusal

@@ -1,7 +1,7 @@
 -- Faults of content between those of records.
 use Rattle.std.proofs.Common.{◌≡◌, ◌∙◌, refl, sym, List, [], ◌∷◌, ◌++◌, Option, Some, None, option_map}
 use Rattle.std.specs.Option.{option_or}
-use Rattle.tb_text.specs.Reading.{Numbered}
+use Rattle.tb_reading.specs.Reading.{Numbered}
 use Rattle.tb_case_records.specs.declared.fault.BundleFault.{BundleFault}
 use Rattle.tb_bundle.specs.Bodies.{behind_case, cases_table, judged_fault}
 use Rattle.tb_case_records.specs.Cases.{CaseForm, case_table}

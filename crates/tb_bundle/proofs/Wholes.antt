@@ -1,10 +1,10 @@
 -- A bundle from its parts: the head, the detail and the records behind it.
 use Rattle.std.proofs.Common.{◌≡◌, ◌∙◌, ap, refl, subst, sym, ℕ, List, drop, Option, Some, None, Result, Ok, Err}
 use Rattle.tb_detail.specs.declared.Detail.{Detail}
-use Rattle.tb_text.specs.declared.fault.DetailFault.{DetailFault}
+use Rattle.tb_reading.specs.declared.fault.DetailFault.{DetailFault}
 use Rattle.tb_detail.specs.Limits.{InLimits}
-use Rattle.tb_text.specs.Reading.{Numbered, detail_reading}
-use Rattle.tb_text.specs.Records.{Row, unless}
+use Rattle.tb_reading.specs.Reading.{Numbered, detail_reading}
+use Rattle.tb_reading.specs.Records.{Row, unless}
 use Rattle.tb_case_records.specs.declared.case.CaseProof.{CaseProof}
 use Rattle.tb_case_records.specs.declared.fault.BundleFault.{BundleFault}
 use Rattle.tb_case_records.specs.declared.fault.BundleFault.TheVariants as bundle

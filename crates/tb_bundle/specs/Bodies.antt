@@ -7,7 +7,7 @@ use Rattle.tb_detail.specs.declared.Environment.{Environment}
 use Rattle.tb_detail.specs.Names.{Text}
 use Rattle.tb_geometry.specs.Base.{base_lines}
 use Rattle.tb_geometry.specs.Cases.{case_masks}
-use Rattle.tb_text.specs.Reading.{Numbered}
+use Rattle.tb_reading.specs.Reading.{Numbered}
 use Rattle.tb_case_records.specs.declared.case.CaseProof.{CaseProof}
 use Rattle.tb_case_records.specs.declared.fault.BundleFault.{BundleFault}
 use Rattle.tb_case_records.specs.declared.fault.BundleFault.TheVariants as bundle

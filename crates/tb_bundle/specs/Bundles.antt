@@ -1,9 +1,9 @@
 -- A bundle, or its first fault, as a reading of the records of a text.
 use Rattle.std.specs.Prelude.{◌≡◌, Bool, List, [], ◌∷◌, drop, codes, Option, Some, None, Result, Ok, Err, if◌then◌else◌}
 use Rattle.tb_detail.specs.declared.Detail.{Detail}
-use Rattle.tb_text.specs.declared.fault.DetailFault.{DetailFault}
-use Rattle.tb_text.specs.Reading.{Numbered}
-use Rattle.tb_text.specs.Records.{Row, unless}
+use Rattle.tb_reading.specs.declared.fault.DetailFault.{DetailFault}
+use Rattle.tb_reading.specs.Reading.{Numbered}
+use Rattle.tb_reading.specs.Records.{Row, unless}
 use Rattle.tb_case_records.specs.declared.fault.BundleFault.{BundleFault}
 use Rattle.tb_case_records.specs.declared.fault.BundleFault.TheVariants as bundle
 use Rattle.tb_case_records.specs.declared.fault.BundleRefusal.{BundleRefusal}

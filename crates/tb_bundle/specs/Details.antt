@@ -4,15 +4,15 @@ use Rattle.std.specs.List.{prefix_len}
 use Rattle.std.specs.Str.{bytes_eq}
 use Rattle.tb_detail.specs.declared.Detail.{Detail}
 use Rattle.tb_records.specs.Records.{is_remark}
-use Rattle.tb_text.specs.Builders.{Stands}
-use Rattle.tb_text.specs.Progress.{Progress}
-use Rattle.tb_text.specs.declared.fault.DetailFault.{DetailFault}
-use Rattle.tb_text.specs.declared.fault.DetailKind.TheVariants.{NotFormat}
-use Rattle.tb_text.specs.declared.fault.DetailRefusal.{DetailRefusal}
-use Rattle.tb_text.specs.declared.fault.DetailRefusal.TheVariants as detail_refusal
-use Rattle.tb_text.specs.Reading.{Numbered, detail_reading, first_record_fault, rows_of, whole_fault}
-use Rattle.tb_text.specs.Details.{head_of}
-use Rattle.tb_text.specs.Records.{Row, text_at}
+use Rattle.tb_reading.specs.Builders.{Stands}
+use Rattle.tb_reading.specs.Progress.{Progress}
+use Rattle.tb_reading.specs.declared.fault.DetailFault.{DetailFault}
+use Rattle.tb_reading.specs.declared.fault.DetailKind.TheVariants.{NotFormat}
+use Rattle.tb_reading.specs.declared.fault.DetailRefusal.{DetailRefusal}
+use Rattle.tb_reading.specs.declared.fault.DetailRefusal.TheVariants as detail_refusal
+use Rattle.tb_reading.specs.Reading.{Numbered, detail_reading, first_record_fault, rows_of, whole_fault}
+use Rattle.tb_reading.specs.Details.{head_of}
+use Rattle.tb_reading.specs.Records.{Row, text_at}
 use Rattle.tb_case_records.specs.declared.fault.BundleFault.{BundleFault}
 use Rattle.tb_case_records.specs.declared.fault.BundleFault.TheVariants as bundle
 use Rattle.tb_case_records.specs.declared.fault.BundleRefusal.{BundleRefusal}

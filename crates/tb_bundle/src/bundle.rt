@@ -16,7 +16,7 @@ use tb_detail::{Detail, Items, SpaceBox};
 use tb_geometry::base_lines;
 use tb_places::AxisName;
 use tb_records::NoMemory;
-use tb_text::read_details_are_in_limits;
+use tb_reading::read_details_are_in_limits;
 
 /// A detail, and what is claimed and proved of each of its cases, in order.
 #[derive(Debug, Drop, PartialEq)]

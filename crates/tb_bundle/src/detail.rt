@@ -2,8 +2,8 @@
 ghost use Rattle.std.specs.Prelude.{◌≡◌, ◌||◌, [], MatchResult, codes};
 ghost use Rattle.std.specs.Str.{bytes_eq};
 ghost use Rattle.csv.specs.Records.{fields_of};
-ghost use Rattle.tb_text.specs.Builders.{Stands};
-ghost use Rattle.tb_text.specs.Records.{text_at};
+ghost use Rattle.tb_reading.specs.Builders.{Stands};
+ghost use Rattle.tb_reading.specs.Records.{text_at};
 ghost use Rattle.tb_case_records.specs.Table.{Refuses};
 ghost use Rattle.tb_case_records.specs.declared.fault.BundleRefusal.TheVariants as refusal;
 ghost use Rattle.tb_bundle.specs.Details.{FeedsOne, IsDetail, IsFed, IsFedDetail, RefusesFed, detail_ahead, detail_fault, no_detail_fault, refusal_of};
@@ -12,7 +12,7 @@ use std::alloc::Global;
 use tb_case_records::{BundleFault, BundleRefusal, RecordReader, field};
 use tb_detail::Detail;
 use tb_records::{ByteRecord, NoMemory};
-use tb_text::{
+use tb_reading::{
     DetailBuilder, DetailFault, DetailKind, DetailRefusal, number_of_no_record, refusals_stay,
 };
 

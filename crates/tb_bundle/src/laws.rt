@@ -1,6 +1,6 @@
 // Laws of bundles.
 ghost use Rattle.std.specs.Prelude.{◌≡◌, List, None};
-ghost use Rattle.tb_text.specs.Reading.{Numbered};
+ghost use Rattle.tb_reading.specs.Reading.{Numbered};
 ghost use Rattle.tb_case_records.specs.Cases.{CaseForm};
 ghost use Rattle.tb_case_records.specs.Table.{first_fault};
 ghost use Rattle.tb_bundle.specs.Bodies.{cases_table, judged_fault};

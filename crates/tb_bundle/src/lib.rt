@@ -1,6 +1,6 @@
 //! The bundle format: a detail, and for each of its cases a grid, a field, a flux, an interval and a verdict.
 //!
-//! A bundle is the record `bundle,1`, the records of a detail (`tb_text`), the records of each case of the detail in
+//! A bundle is the record `bundle,1`, the records of a detail (`tb_reading`), the records of each case of the detail in
 //! order (`tb_case_records`), and `end`. Records are those of `tb_records`; a record whose first field begins with `#`
 //! is a remark, which is counted and passed over.
 //!

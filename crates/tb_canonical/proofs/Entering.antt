@@ -20,16 +20,16 @@ use Rattle.tb_detail.specs.declared.quantity.Quantity.TheVariants as quantity
 use Rattle.tb_detail.specs.Limits.{BoxInLimits, ChiInLimits, ContentInLimits, InLimits, IsExtent, LayerInLimits, LineInLimits, PartInLimits, PsiInLimits, SpanInLimits, TermInLimits}
 use Rattle.tb_detail.specs.Names.{Text}
 use Rattle.tb_detail.specs.Quantities.{IsInRange}
-use Rattle.tb_text.specs.declared.kinds.NameKind.TheVariants as name
-use Rattle.tb_text.specs.declared.kinds.RecordKind.{RecordKind}
-use Rattle.tb_text.specs.declared.kinds.RecordKind.TheVariants as kind
-use Rattle.tb_text.specs.declared.values.FieldValue.{FieldValue}
-use Rattle.tb_text.specs.declared.values.FieldValue.TheVariants.{Nothing, Number, Place, Signed}
-use Rattle.tb_text.specs.Details.{areas_from}
-use Rattle.tb_text.specs.Drafts.{changed_at, more_area, more_layer, more_length, more_line}
-use Rattle.tb_text.specs.Kinds as kinds
-use Rattle.tb_text.specs.Names.{NamesByKind}
-use Rattle.tb_text.specs.Records.{number_in, place_in}
+use Rattle.tb_reading.specs.declared.kinds.NameKind.TheVariants as name
+use Rattle.tb_reading.specs.declared.kinds.RecordKind.{RecordKind}
+use Rattle.tb_reading.specs.declared.kinds.RecordKind.TheVariants as kind
+use Rattle.tb_reading.specs.declared.values.FieldValue.{FieldValue}
+use Rattle.tb_reading.specs.declared.values.FieldValue.TheVariants.{Nothing, Number, Place, Signed}
+use Rattle.tb_reading.specs.Details.{areas_from}
+use Rattle.tb_reading.specs.Drafts.{changed_at, more_area, more_layer, more_length, more_line}
+use Rattle.tb_reading.specs.Kinds as kinds
+use Rattle.tb_reading.specs.Names.{NamesByKind}
+use Rattle.tb_reading.specs.Records.{number_in, place_in}
 use Rattle.tb_canonical.specs.Canonical.{box_row, content_row, environment_row, layer_row, line_row, material_row, names_in, pair_values, part_values, row_of, term_row}
 use Rattle.tb_canonical.proofs.LastItem.{last_changed, last_got}
 use Rattle.tb_canonical.proofs.Names.{all_known, declared, known, owner}

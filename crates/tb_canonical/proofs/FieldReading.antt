@@ -11,9 +11,9 @@ use Rattle.tb_detail.specs.Quantities.{IsInRange, least, most}
 use Rattle.tb_detail.specs.declared.quantity.Quantity.{Quantity}
 use Rattle.tb_detail.specs.declared.quantity.Quantity.TheVariants as quantity
 use Rattle.tb_numbers.proofs.ShortTexts.{decimal_reads_within, signed_reads_within}
-use Rattle.tb_text.specs.Kinds.{places}
-use Rattle.tb_text.specs.Names.{place_of}
-use Rattle.tb_text.specs.Records.{number_reading, of_number, psi_reading}
+use Rattle.tb_reading.specs.Kinds.{places}
+use Rattle.tb_reading.specs.Names.{place_of}
+use Rattle.tb_reading.specs.Records.{number_reading, of_number, psi_reading}
 use Rattle.tb_canonical.specs.Canonical.{name_at, number, psi_number}
 
 -- ---- numbers

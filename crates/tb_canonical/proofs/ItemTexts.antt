@@ -7,9 +7,9 @@ use Rattle.tb_detail.specs.declared.ChiItem.{ChiItem}
 use Rattle.tb_detail.specs.declared.Detail.{Detail}
 use Rattle.tb_detail.specs.declared.Part.{Part}
 use Rattle.tb_detail.specs.declared.PsiItem.{PsiItem}
-use Rattle.tb_text.specs.declared.kinds.RecordKind.TheVariants as kind
-use Rattle.tb_text.specs.Names.{NamesByKind}
-use Rattle.tb_text.specs.Records.{Row}
+use Rattle.tb_reading.specs.declared.kinds.RecordKind.TheVariants as kind
+use Rattle.tb_reading.specs.Names.{NamesByKind}
+use Rattle.tb_reading.specs.Records.{Row}
 use Rattle.tb_canonical.specs.Canonical.{box_row, canonical_rows, canonical_text, chi_rows, environment_row, head_row, layer_row, line_row, material_row, names_in, pair_values, part_rows, part_values, psi_rows, row_of, term_row}
 use Rattle.tb_canonical.proofs.Joined.{mapped_text}
 

@@ -8,14 +8,14 @@ use Rattle.tb_outside.proofs.Gathered.{gathers_both, gathers_same}
 use Rattle.tb_outside.specs.Buffers.{Gathers}
 use Rattle.tb_records.specs.Plain.{record_text, records_text}
 use Rattle.tb_detail.specs.Names.{Text}
-use Rattle.tb_text.specs.declared.kinds.FieldRule.{FieldRule}
-use Rattle.tb_text.specs.declared.kinds.FieldRule.TheVariants.{Word}
-use Rattle.tb_text.specs.declared.kinds.RecordKind.{RecordKind}
-use Rattle.tb_text.specs.declared.kinds.RecordKind.TheVariants as kind
-use Rattle.tb_text.specs.declared.values.FieldValue.{FieldValue}
-use Rattle.tb_text.specs.declared.values.FieldValue.TheVariants.{Nothing}
-use Rattle.tb_text.specs.Kinds.{fields, word}
-use Rattle.tb_text.specs.Names.{NamesByKind}
+use Rattle.tb_reading.specs.declared.kinds.FieldRule.{FieldRule}
+use Rattle.tb_reading.specs.declared.kinds.FieldRule.TheVariants.{Word}
+use Rattle.tb_reading.specs.declared.kinds.RecordKind.{RecordKind}
+use Rattle.tb_reading.specs.declared.kinds.RecordKind.TheVariants as kind
+use Rattle.tb_reading.specs.declared.values.FieldValue.{FieldValue}
+use Rattle.tb_reading.specs.declared.values.FieldValue.TheVariants.{Nothing}
+use Rattle.tb_reading.specs.Kinds.{fields, word}
+use Rattle.tb_reading.specs.Names.{NamesByKind}
 use Rattle.tb_canonical.specs.Canonical.{field_text, field_texts, row_of}
 
 -- fields with a comma before each

@@ -5,8 +5,8 @@ use Rattle.std.proofs.lemmas.List.{get_or-map, get_or_append_left, length-append
 use Rattle.std.specs.Prelude.{slice_get}
 use Rattle.std.specs.Str.{bytes_eq}
 use Rattle.tb_detail.specs.Names.{AreNamed, Text}
-use Rattle.tb_text.specs.Drafts.{changed_at}
-use Rattle.tb_text.specs.Names.{place_of}
+use Rattle.tb_reading.specs.Drafts.{changed_at}
+use Rattle.tb_reading.specs.Names.{place_of}
 use Rattle.tb_canonical.proofs.FieldReading.{first_place, position_at}
 
 pub last_got : {X : Type 0} (before : List X) (x : X) → slice_get (before ++ (x ∷ [])) (length before) ≡ Some x

@@ -9,7 +9,7 @@ use Rattle.tb_numbers.proofs.ShortTexts.{decimal_plain, signed_plain}
 use Rattle.tb_detail.specs.Names.{Text, is_name, is_name_byte}
 use Rattle.tb_detail.specs.Quantities.{IsInRange}
 use Rattle.tb_detail.specs.declared.quantity.Quantity.{Quantity}
-use Rattle.tb_text.specs.Kinds.{places}
+use Rattle.tb_reading.specs.Kinds.{places}
 use Rattle.tb_canonical.specs.Canonical.{number, psi_number}
 use Rattle.tb_canonical.proofs.FieldReading.{most_small}
 

@@ -8,16 +8,16 @@ use Rattle.tb_records.specs.Plain.{is_plain}
 use Rattle.tb_detail.specs.Names.{Text, is_name}
 use Rattle.tb_detail.specs.Quantities.{IsInRange}
 use Rattle.tb_detail.specs.declared.quantity.Quantity.{Quantity}
-use Rattle.tb_text.specs.declared.kinds.FieldRule.{FieldRule}
-use Rattle.tb_text.specs.declared.kinds.FieldRule.TheVariants.{Word, Declares, BelongsTo, Uses, UsesOther, Reads, ReadsAbove, ReadsPsi, ReadsPsiFrom}
-use Rattle.tb_text.specs.declared.kinds.NameKind.{NameKind}
-use Rattle.tb_text.specs.declared.kinds.RecordKind.{RecordKind}
-use Rattle.tb_text.specs.declared.kinds.RecordKind.TheVariants as kind
-use Rattle.tb_text.specs.declared.values.FieldValue.{FieldValue}
-use Rattle.tb_text.specs.declared.values.FieldValue.TheVariants.{Nothing, Number, Place, Signed}
-use Rattle.tb_text.specs.Kinds.{word}
-use Rattle.tb_text.specs.Names.{NamesByKind, place_of}
-use Rattle.tb_text.specs.Records.{field_fault, field_faults, first_some, is_place, number_in, signed_in, value, values}
+use Rattle.tb_reading.specs.declared.kinds.FieldRule.{FieldRule}
+use Rattle.tb_reading.specs.declared.kinds.FieldRule.TheVariants.{Word, Declares, BelongsTo, Uses, UsesOther, Reads, ReadsAbove, ReadsPsi, ReadsPsiFrom}
+use Rattle.tb_reading.specs.declared.kinds.NameKind.{NameKind}
+use Rattle.tb_reading.specs.declared.kinds.RecordKind.{RecordKind}
+use Rattle.tb_reading.specs.declared.kinds.RecordKind.TheVariants as kind
+use Rattle.tb_reading.specs.declared.values.FieldValue.{FieldValue}
+use Rattle.tb_reading.specs.declared.values.FieldValue.TheVariants.{Nothing, Number, Place, Signed}
+use Rattle.tb_reading.specs.Kinds.{word}
+use Rattle.tb_reading.specs.Names.{NamesByKind, place_of}
+use Rattle.tb_reading.specs.Records.{field_fault, field_faults, first_some, is_place, number_in, signed_in, value, values}
 use Rattle.tb_canonical.specs.Canonical.{field_text, field_texts, name_at}
 use Rattle.tb_canonical.proofs.FieldReading.{number_read, psi_read}
 use Rattle.tb_canonical.proofs.PlainFields.{name_plain, number_plain, psi_plain}

@@ -12,27 +12,27 @@ use Rattle.tb_detail.specs.declared.Material.{Material}
 use Rattle.tb_detail.specs.declared.Part.{Part}
 use Rattle.tb_detail.specs.declared.PsiItem.{PsiItem}
 use Rattle.tb_detail.specs.Names.{Text}
-use Rattle.tb_text.specs.declared.draft.Draft.{Draft}
-use Rattle.tb_text.specs.declared.fault.DetailFault.{DetailFault}
-use Rattle.tb_text.specs.declared.fault.DetailKind.TheVariants.{EmptyPart, NotFormat}
-use Rattle.tb_text.specs.declared.kinds.NameKind.{NameKind}
-use Rattle.tb_text.specs.declared.kinds.NameKind.TheVariants as name
-use Rattle.tb_text.specs.declared.kinds.RecordKind.{RecordKind}
-use Rattle.tb_text.specs.declared.kinds.RecordKind.TheVariants as kind
-use Rattle.tb_text.specs.declared.names.Names.{Names}
-use Rattle.tb_text.specs.declared.records.Said.{Said}
-use Rattle.tb_text.specs.declared.records.Said.TheVariants as said
-use Rattle.tb_text.specs.declared.values.FieldValue.{FieldValue}
-use Rattle.tb_text.specs.Details.{detail_of, dimension_of, head_of, names_of, same_kind}
-use Rattle.tb_text.specs.Drafts.{Holds, changed_at, entry_of, reading_behind, with_declared, with_entry, with_if, with_said}
-use Rattle.tb_text.specs.Kinds.{declares}
-use Rattle.tb_text.specs.NameLists as kept
-use Rattle.tb_text.specs.Names.{NamesByKind}
-use Rattle.tb_text.specs.Reading.{Numbered, at_number, bare_fault, detail_reading, first_record_fault, format_fault, is_bare, numbered, part_numbers, rows_of, whole_fault}
-use Rattle.tb_text.specs.Records.{Row, head_dimension, reading, text_at, unless}
-use Rattle.tb_text.proofs.First.{fault_next}
-use Rattle.tb_text.proofs.Holding.{dimension_is, holds_none, taken}
-use Rattle.tb_text.proofs.Selected.{map_push}
+use Rattle.tb_reading.specs.declared.draft.Draft.{Draft}
+use Rattle.tb_reading.specs.declared.fault.DetailFault.{DetailFault}
+use Rattle.tb_reading.specs.declared.fault.DetailKind.TheVariants.{EmptyPart, NotFormat}
+use Rattle.tb_reading.specs.declared.kinds.NameKind.{NameKind}
+use Rattle.tb_reading.specs.declared.kinds.NameKind.TheVariants as name
+use Rattle.tb_reading.specs.declared.kinds.RecordKind.{RecordKind}
+use Rattle.tb_reading.specs.declared.kinds.RecordKind.TheVariants as kind
+use Rattle.tb_reading.specs.declared.names.Names.{Names}
+use Rattle.tb_reading.specs.declared.records.Said.{Said}
+use Rattle.tb_reading.specs.declared.records.Said.TheVariants as said
+use Rattle.tb_reading.specs.declared.values.FieldValue.{FieldValue}
+use Rattle.tb_reading.specs.Details.{detail_of, dimension_of, head_of, names_of, same_kind}
+use Rattle.tb_reading.specs.Drafts.{Holds, changed_at, entry_of, reading_behind, with_declared, with_entry, with_if, with_said}
+use Rattle.tb_reading.specs.Kinds.{declares}
+use Rattle.tb_reading.specs.NameLists as kept
+use Rattle.tb_reading.specs.Names.{NamesByKind}
+use Rattle.tb_reading.specs.Reading.{Numbered, at_number, bare_fault, detail_reading, first_record_fault, format_fault, is_bare, numbered, part_numbers, rows_of, whole_fault}
+use Rattle.tb_reading.specs.Records.{Row, head_dimension, reading, text_at, unless}
+use Rattle.tb_reading.proofs.First.{fault_next}
+use Rattle.tb_reading.proofs.Holding.{dimension_is, holds_none, taken}
+use Rattle.tb_reading.proofs.Selected.{map_push}
 use Rattle.tb_canonical.specs.Canonical.{names_in}
 
 -- ---- a draft that holds a detail

@@ -12,7 +12,7 @@ use Rattle.tb_detail.specs.declared.PsiItem.{PsiItem}
 use Rattle.tb_detail.specs.declared.SpaceBox.{SpaceBox}
 use Rattle.tb_detail.specs.Limits as limits
 use Rattle.tb_detail.specs.Limits.{InLimits}
-use Rattle.tb_text.specs.Names.{name_count}
+use Rattle.tb_reading.specs.Names.{name_count}
 use Rattle.tb_canonical.specs.Canonical.{names_in}
 
 -- a detail, with the environments and so on that were read so far, and no more

@@ -5,15 +5,15 @@ use Rattle.tb_records.specs.Plain.{is_blank}
 use Rattle.tb_records.specs.Records.{is_remark}
 use Rattle.tb_detail.specs.declared.Detail.{Detail}
 use Rattle.tb_detail.specs.Names.{Text}
-use Rattle.tb_text.specs.declared.kinds.RecordKind.{RecordKind}
-use Rattle.tb_text.specs.declared.kinds.RecordKind.TheVariants as kind
-use Rattle.tb_text.specs.declared.records.Said.TheVariants as said
-use Rattle.tb_text.specs.declared.values.FieldValue.{FieldValue}
-use Rattle.tb_text.specs.declared.values.FieldValue.TheVariants.{Nothing}
-use Rattle.tb_text.specs.Drafts.{entry_of, with_entry}
-use Rattle.tb_text.specs.Kinds.{fields, is_allowed}
-use Rattle.tb_text.specs.Names.{NamesByKind}
-use Rattle.tb_text.specs.Records.{Row, is_count, is_full, kind_of, record_fault, said_by, sections_of}
+use Rattle.tb_reading.specs.declared.kinds.RecordKind.{RecordKind}
+use Rattle.tb_reading.specs.declared.kinds.RecordKind.TheVariants as kind
+use Rattle.tb_reading.specs.declared.records.Said.TheVariants as said
+use Rattle.tb_reading.specs.declared.values.FieldValue.{FieldValue}
+use Rattle.tb_reading.specs.declared.values.FieldValue.TheVariants.{Nothing}
+use Rattle.tb_reading.specs.Drafts.{entry_of, with_entry}
+use Rattle.tb_reading.specs.Kinds.{fields, is_allowed}
+use Rattle.tb_reading.specs.Names.{NamesByKind}
+use Rattle.tb_reading.specs.Records.{Row, is_count, is_full, kind_of, record_fault, said_by, sections_of}
 use Rattle.tb_canonical.specs.Canonical.{names_in, row_of}
 use Rattle.tb_canonical.proofs.RowReading.{Agree, AllFit, fields_back, same_texts}
 use Rattle.tb_canonical.proofs.Runs.{Goes}

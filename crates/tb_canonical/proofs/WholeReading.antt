@@ -15,10 +15,10 @@ use Rattle.tb_detail.specs.declared.Part.{Part}
 use Rattle.tb_detail.specs.declared.PlanarTerm.{PlanarTerm}
 use Rattle.tb_detail.specs.declared.PsiItem.{PsiItem}
 use Rattle.tb_detail.specs.Limits.{InLimits, PartInLimits}
-use Rattle.tb_text.specs.declared.kinds.RecordKind.TheVariants as kind
-use Rattle.tb_text.specs.declared.records.Said.TheVariants as said
-use Rattle.tb_text.specs.Reading.{detail_reading, is_bare, numbered}
-use Rattle.tb_text.specs.Records.{head_dimension, record_fault, said_by}
+use Rattle.tb_reading.specs.declared.kinds.RecordKind.TheVariants as kind
+use Rattle.tb_reading.specs.declared.records.Said.TheVariants as said
+use Rattle.tb_reading.specs.Reading.{detail_reading, is_bare, numbered}
+use Rattle.tb_reading.specs.Records.{head_dimension, record_fault, said_by}
 use Rattle.tb_canonical.specs.Canonical.{box_row, canonical_rows, canonical_text, chi_rows, environment_row, head_row, layer_row, line_row, material_row, names_in, part_rows, psi_rows, term_row}
 use Rattle.tb_canonical.proofs.FieldReading.{one_more, position_none}
 use Rattle.tb_canonical.proofs.Runs.{Goes, Runs, nothing, runs_append, runs_each, runs_map, runs_plain, whole_reading}

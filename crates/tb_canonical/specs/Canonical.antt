@@ -18,16 +18,16 @@ use Rattle.tb_detail.specs.declared.SpaceBox.{SpaceBox}
 use Rattle.tb_detail.specs.declared.Span.{Span}
 use Rattle.tb_detail.specs.Names.{Text}
 use Rattle.tb_detail.specs.declared.quantity.Quantity.{Quantity}
-use Rattle.tb_text.specs.declared.kinds.FieldRule.{FieldRule}
-use Rattle.tb_text.specs.declared.kinds.FieldRule.TheVariants.{Word, Declares, BelongsTo, Uses, UsesOther, Reads, ReadsAbove, ReadsPsi, ReadsPsiFrom}
-use Rattle.tb_text.specs.declared.kinds.NameKind.TheVariants as name
-use Rattle.tb_text.specs.declared.kinds.RecordKind.{RecordKind}
-use Rattle.tb_text.specs.declared.kinds.RecordKind.TheVariants as kind
-use Rattle.tb_text.specs.declared.values.FieldValue.{FieldValue}
-use Rattle.tb_text.specs.declared.values.FieldValue.TheVariants.{Nothing, Number, Place, Signed}
-use Rattle.tb_text.specs.Kinds.{fields, places, word}
-use Rattle.tb_text.specs.Names.{NamesByKind}
-use Rattle.tb_text.specs.Records.{Row, number_in, place_in, signed_in}
+use Rattle.tb_reading.specs.declared.kinds.FieldRule.{FieldRule}
+use Rattle.tb_reading.specs.declared.kinds.FieldRule.TheVariants.{Word, Declares, BelongsTo, Uses, UsesOther, Reads, ReadsAbove, ReadsPsi, ReadsPsiFrom}
+use Rattle.tb_reading.specs.declared.kinds.NameKind.TheVariants as name
+use Rattle.tb_reading.specs.declared.kinds.RecordKind.{RecordKind}
+use Rattle.tb_reading.specs.declared.kinds.RecordKind.TheVariants as kind
+use Rattle.tb_reading.specs.declared.values.FieldValue.{FieldValue}
+use Rattle.tb_reading.specs.declared.values.FieldValue.TheVariants.{Nothing, Number, Place, Signed}
+use Rattle.tb_reading.specs.Kinds.{fields, places, word}
+use Rattle.tb_reading.specs.Names.{NamesByKind}
+use Rattle.tb_reading.specs.Records.{Row, number_in, place_in, signed_in}
 
 -- ---- names and numbers
 

@@ -5,7 +5,7 @@ ghost use Rattle.tb_outside.specs.Faults.{TellsFaults};
 ghost use Rattle.tb_outside.specs.Outside.{Writes};
 ghost use Rattle.tb_records.specs.Records.{records_of};
 ghost use Rattle.tb_detail.specs.Limits.{InLimits};
-ghost use Rattle.tb_text.specs.Reading.{detail_reading, numbered};
+ghost use Rattle.tb_reading.specs.Reading.{detail_reading, numbered};
 ghost use Rattle.tb_canonical.specs.Canonical.{canonical_text};
 
 use crate::fields::{dimension_text, slice_of};

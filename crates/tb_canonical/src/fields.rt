@@ -2,11 +2,11 @@
 // call, since their views meet only there.
 ghost use Rattle.std.specs.Prelude.{◌≡◌, ◌<◌};
 ghost use Rattle.tb_canonical.specs.Canonical.{dimension_text, name_at, names_in, number, psi_number};
-ghost use Rattle.tb_text.specs.declared.values.FieldValue.TheVariants.{Place};
+ghost use Rattle.tb_reading.specs.declared.values.FieldValue.TheVariants.{Place};
 
 use tb_detail::{Detail, Items, Name, Quantity};
 use tb_numbers::{NumberText, decimal, signed_decimal};
-use tb_text::{FieldValue, NameKind, places};
+use tb_reading::{FieldValue, NameKind, places};
 
 /// The items of a list.
 pub fn slice_of<T>(list: &Items<T>) -> &[T]

@@ -5,7 +5,7 @@ ghost use Rattle.tb_records.specs.Plain.{is_plain_record};
 ghost use Rattle.tb_records.specs.Records.{records_of};
 ghost use Rattle.tb_detail.specs.Limits.{InLimits};
 ghost use Rattle.tb_detail.specs.declared.Detail.{Detail};
-ghost use Rattle.tb_text.specs.Reading.{detail_reading, numbered};
+ghost use Rattle.tb_reading.specs.Reading.{detail_reading, numbered};
 ghost use Rattle.tb_canonical.specs.Canonical.{canonical_rows, canonical_text};
 
 /// The canonical records of a detail are plain, so they are the records of its canonical text; and they read as this

@@ -3,12 +3,12 @@ ghost use Rattle.std.specs.Prelude.{◌≡◌, ◌∷◌, ◌<◌, length, map};
 ghost use Rattle.tb_outside.specs.Buffers.{Gathers};
 ghost use Rattle.tb_records.specs.Plain.{record_text};
 ghost use Rattle.tb_canonical.specs.Canonical.{field_text, names_in, row_of};
-ghost use Rattle.tb_text.specs.Kinds.{fields};
+ghost use Rattle.tb_reading.specs.Kinds.{fields};
 
 use crate::fields::{name_at, number, psi_number};
 use tb_detail::Detail;
 use tb_outside::{OutputBuffer, Sink};
-use tb_text::{FieldRule, FieldValue, RecordKind};
+use tb_reading::{FieldRule, FieldValue, RecordKind};
 
 /// Puts a record of these fields, the first of which is its word: a comma between each two, and a line
 /// feed at the end. They are written as they are, so they must be plain.

@@ -7,7 +7,7 @@ use std::alloc::Global;
 use std::test::Fail;
 use tb_detail::Detail;
 use tb_outside::MemorySink;
-use tb_text::read_detail;
+use tb_reading::read_detail;
 
 // Details and their canonical texts.
 const TEXTS: [(&str, &str); 9] = [

@@ -5,7 +5,7 @@ ghost use Rattle.tb_outside.specs.Buffers.{Gathers};
 ghost use Rattle.tb_records.specs.Plain.{record_text, records_text};
 ghost use Rattle.tb_detail.specs.declared.Detail.{Detail};
 ghost use Rattle.tb_detail.specs.Limits.{BoxInLimits, ChiInLimits, InLimits, LayerInLimits, PartInLimits, PsiInLimits, TermInLimits};
-ghost use Rattle.tb_text.specs.Kinds.{fields};
+ghost use Rattle.tb_reading.specs.Kinds.{fields};
 ghost use Rattle.tb_canonical.specs.Canonical.{box_row, chi_rows, content_row, environment_row, layer_row, layer_values, line_row, material_row, names_in, part_rows, part_values, psi_rows, term_row};
 
 use crate::fields::{name_bytes, place, slice_of};
@@ -15,7 +15,7 @@ use tb_detail::{
     SpaceBox, Span,
 };
 use tb_outside::{OutputBuffer, Sink};
-use tb_text::{FieldValue, RecordKind, Values};
+use tb_reading::{FieldValue, RecordKind, Values};
 
 /// A thing of a detail that is written as records, behind the item that it belongs to.
 pub trait Written {

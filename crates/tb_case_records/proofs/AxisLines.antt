@@ -5,8 +5,8 @@ use Rattle.std.proofs.lemmas.Bool.{ltb-true}
 use Rattle.csv.specs.Records.{field_at}
 use Rattle.tb_detail.specs.Names.{Text}
 use Rattle.tb_numbers.specs.declared.parse.NumberFault.{NumberFault}
-use Rattle.tb_text.proofs.Fields.{drop_field}
-use Rattle.tb_text.specs.Records.{Row, first_some}
+use Rattle.tb_reading.proofs.Fields.{drop_field}
+use Rattle.tb_reading.specs.Records.{Row, first_some}
 use Rattle.tb_case_records.specs.declared.fault.RecordFault.{RecordFault}
 use Rattle.tb_case_records.specs.Table.{is_above, line_fault, line_faults, line_reading, read_line}
 

@@ -1,7 +1,7 @@
 -- The records of a case one behind the other.
 use Rattle.std.proofs.Common.{◌≡◌, ◌∙◌, ap, refl, sym, subst, ℕ, zero, suc, ◌+◌, ◌-◌, ◌*◌, List, [], ◌∷◌, ◌++◌, length, drop, arith}
-use Rattle.tb_text.specs.Reading.{Numbered}
-use Rattle.tb_text.specs.Records.{Row}
+use Rattle.tb_reading.specs.Reading.{Numbered}
+use Rattle.tb_reading.specs.Records.{Row}
 use Rattle.tb_case_records.specs.Cases.{cells_in, lines_in, row_at}
 use Rattle.tb_case_records.specs.Rows.{numbers}
 use Rattle.tb_case_records.specs.Table.{line_reading}

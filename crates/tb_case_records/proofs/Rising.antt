@@ -6,7 +6,7 @@ use Rattle.std.specs.List.Sorted.{IsStrictlyIncreasing}
 use Rattle.tb_detail.specs.Names.{Text}
 use Rattle.tb_numbers.specs.declared.parse.NumberFault.{NumberFault}
 use Rattle.tb_numbers.specs.declared.parse.NumberFault.TheVariants as number
-use Rattle.tb_text.specs.Records.{first_some}
+use Rattle.tb_reading.specs.Records.{first_some}
 use Rattle.tb_case_records.specs.declared.fault.RecordFault.{RecordFault}
 use Rattle.tb_case_records.specs.declared.fault.RecordFault.TheVariants as fault
 use Rattle.tb_case_records.specs.Rows.{numbers, read_of}

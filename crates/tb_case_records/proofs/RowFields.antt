@@ -5,8 +5,8 @@ use Rattle.std.specs.Str.{bytes_eq}
 use Rattle.csv.specs.Records.{field_at}
 use Rattle.tb_detail.specs.Names.{Text}
 use Rattle.tb_numbers.specs.declared.parse.NumberFault.{NumberFault}
-use Rattle.tb_text.proofs.Fields.{drop_field}
-use Rattle.tb_text.specs.Records.{Row, first_some, text_at}
+use Rattle.tb_reading.proofs.Fields.{drop_field}
+use Rattle.tb_reading.specs.Records.{Row, first_some, text_at}
 use Rattle.tb_case_records.specs.declared.fault.RecordFault.{RecordFault}
 use Rattle.tb_case_records.specs.declared.rows.RowKind.{RowKind}
 use Rattle.tb_case_records.specs.Rows.{fault_in, number_faults, numbers, read_of, reading_of, row_fault, word_of}

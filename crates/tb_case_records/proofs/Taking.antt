@@ -7,8 +7,8 @@ use Rattle.std.specs.List.{flat_map, repeat}
 use Rattle.tb_detail.specs.Names.{Text}
 use Rattle.tb_numbers.specs.declared.parse.NumberFault.{NumberFault}
 use Rattle.std.specs.Option.{option_or}
-use Rattle.tb_text.specs.Reading.{Numbered}
-use Rattle.tb_text.specs.Records.{Row, first_some}
+use Rattle.tb_reading.specs.Reading.{Numbered}
+use Rattle.tb_reading.specs.Records.{Row, first_some}
 use Rattle.tb_case_records.specs.declared.fault.BundleFault.{BundleFault}
 use Rattle.tb_case_records.specs.declared.fault.BundleFault.TheVariants as bundle
 use Rattle.tb_case_records.specs.declared.fault.BundleRefusal.{BundleRefusal}

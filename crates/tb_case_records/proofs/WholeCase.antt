@@ -4,8 +4,8 @@ use Rattle.std.proofs.lemmas.List.{drop-drop}
 use Rattle.tb_grid.specs.Axis.{interval_count}
 use Rattle.tb_grid.specs.Grid.{Axes}
 use Rattle.tb_sums.specs.declared.Interval.{Interval}
-use Rattle.tb_text.specs.Reading.{Numbered}
-use Rattle.tb_text.specs.Records.{text_at}
+use Rattle.tb_reading.specs.Reading.{Numbered}
+use Rattle.tb_reading.specs.Records.{text_at}
 use Rattle.tb_case_records.specs.declared.case.CaseProof.{CaseProof}
 use Rattle.tb_case_records.specs.declared.ends.Verdict.{Verdict}
 use Rattle.tb_case_records.specs.declared.fault.BundleRefusal.{BundleRefusal}

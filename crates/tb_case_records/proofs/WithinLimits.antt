@@ -8,8 +8,8 @@ use Rattle.tb_places.specs.declared.AxisName.{AxisName}
 use Rattle.tb_places.specs.declared.AxisName.TheVariants.{X, Y, Z}
 use Rattle.tb_grid.specs.Axis.{IsAxis, interval_count}
 use Rattle.tb_grid.specs.Grid.{Axes, IsGrid, lines_of}
-use Rattle.tb_text.specs.Reading.{Numbered}
-use Rattle.tb_text.specs.Records.{Row, first_some, text_at}
+use Rattle.tb_reading.specs.Reading.{Numbered}
+use Rattle.tb_reading.specs.Records.{Row, first_some, text_at}
 use Rattle.tb_case_records.specs.declared.fault.BundleFault.{BundleFault}
 use Rattle.tb_case_records.specs.declared.fault.BundleFault.TheVariants as bundle
 use Rattle.tb_case_records.specs.declared.fault.RecordFault.{RecordFault}

@@ -4,8 +4,8 @@ use Rattle.std.specs.List.{flat_map}
 use Rattle.tb_numbers.specs.declared.parse.NumberFault.{NumberFault}
 use Rattle.tb_detail.specs.Names.{Text}
 use Rattle.tb_records.specs.Records.{is_remark}
-use Rattle.tb_text.specs.Reading.{Numbered, numbered}
-use Rattle.tb_text.specs.Records.{Row}
+use Rattle.tb_reading.specs.Reading.{Numbered, numbered}
+use Rattle.tb_reading.specs.Records.{Row}
 use Rattle.tb_case_records.specs.Rows.{numbers}
 
 -- numbered records that are no remarks

@@ -10,8 +10,8 @@ use Rattle.tb_geometry.specs.declared.case.Case.{Case}
 use Rattle.tb_sums.specs.declared.Interval.{Interval}
 use Rattle.tb_numbers.specs.Reading.{whole_reading}
 use Rattle.tb_numbers.specs.declared.parse.NumberFault.{NumberFault}
-use Rattle.tb_text.specs.Reading.{Numbered}
-use Rattle.tb_text.specs.Records.{Row, text_at}
+use Rattle.tb_reading.specs.Reading.{Numbered}
+use Rattle.tb_reading.specs.Records.{Row, text_at}
 use Rattle.tb_case_records.specs.declared.case.CaseShape.{CaseShape}
 use Rattle.tb_case_records.specs.declared.case.CaseProof.{CaseProof}
 use Rattle.tb_case_records.specs.declared.ends.Verdict.{Verdict}

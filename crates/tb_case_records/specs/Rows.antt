@@ -7,7 +7,7 @@ use Rattle.tb_detail.specs.Names.{Text}
 use Rattle.tb_numbers.specs.Reading.{decimal_reading, in_size, signed_reading}
 use Rattle.tb_numbers.specs.declared.parse.NumberFault.{NumberFault}
 use Rattle.tb_numbers.specs.declared.parse.NumberFault.TheVariants as number
-use Rattle.tb_text.specs.Records.{Row, first_some, text_at}
+use Rattle.tb_reading.specs.Records.{Row, first_some, text_at}
 use Rattle.tb_case_records.specs.declared.fault.RecordFault.{RecordFault}
 use Rattle.tb_case_records.specs.declared.fault.RecordFault.TheVariants as fault
 use Rattle.tb_case_records.specs.declared.rows.RowKind.{RowKind}

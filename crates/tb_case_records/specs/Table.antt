@@ -10,8 +10,8 @@ use Rattle.tb_detail.specs.Names.{Text}
 use Rattle.tb_grid.specs.Axis.{interval_count}
 use Rattle.tb_numbers.specs.Reading.{decimal_reading, in_range, whole_reading}
 use Rattle.tb_numbers.specs.declared.parse.NumberFault.{NumberFault}
-use Rattle.tb_text.specs.Reading.{Numbered}
-use Rattle.tb_text.specs.Records.{Row, first_some, text_at}
+use Rattle.tb_reading.specs.Reading.{Numbered}
+use Rattle.tb_reading.specs.Records.{Row, first_some, text_at}
 use Rattle.tb_case_records.specs.declared.fault.BundleFault.{BundleFault}
 use Rattle.tb_case_records.specs.declared.fault.BundleFault.TheVariants as bundle
 use Rattle.tb_case_records.specs.declared.fault.BundleRefusal.{BundleRefusal}

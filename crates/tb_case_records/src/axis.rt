@@ -3,7 +3,7 @@ ghost use Rattle.std.specs.Prelude.{◌≡◌, ◌==◌, ◌&&◌, ◌||◌, ◌
 ghost use Rattle.std.specs.List.{find, list_any};
 ghost use Rattle.std.specs.Str.{bytes_eq};
 ghost use Rattle.csv.specs.Records.{fields_of};
-ghost use Rattle.tb_text.specs.Records.{first_some, text_at};
+ghost use Rattle.tb_reading.specs.Records.{first_some, text_at};
 ghost use Rattle.tb_case_records.specs.Cases.{lines_in};
 ghost use Rattle.tb_case_records.specs.Rows.{TellsFault, numbers};
 ghost use Rattle.tb_case_records.specs.Table.{Axis, Taken, axis_fault, is_above, is_none_of, is_too_large, last_of, letter, line_fault, line_faults, line_reading};

@@ -1,7 +1,7 @@
 // The last two records of a case: its interval, and its verdict with the width.
 ghost use Rattle.std.specs.Prelude.{◌≡◌, ◌∷◌, [], IfOk, MatchResult, None, Some, if◌then◌else◌};
 ghost use Rattle.csv.specs.Records.{fields_of};
-ghost use Rattle.tb_text.specs.Records.{text_at};
+ghost use Rattle.tb_reading.specs.Records.{text_at};
 ghost use Rattle.tb_case_records.specs.Cases.{EndsAs, interval_in, row_at, verdict_in, width_in};
 ghost use Rattle.tb_case_records.specs.Table.{Ends, Judged, Taken, ends_fault, is_verdict, verdict_fault, width_reading};
 

@@ -3,7 +3,7 @@ ghost use Rattle.std.specs.Prelude.{◌≡◌};
 ghost use Rattle.tb_case_records.specs.Faults.{placed};
 
 use tb_places::AxisName;
-use tb_text::DetailFault;
+use tb_reading::DetailFault;
 use thiserror::Error;
 
 /// A field of a record, both counted from 1.

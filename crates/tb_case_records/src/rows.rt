@@ -2,7 +2,7 @@
 ghost use Rattle.std.specs.Prelude.{◌≡◌, ◌==◌, ◌&&◌, ◌+◌, length, ◌++◌, ◌∷◌, [], ◌<◌, ℕ, ◌^◌, drop, replicate, OnOk};
 ghost use Rattle.std.specs.Str.{bytes_eq};
 ghost use Rattle.csv.specs.Records.{fields_of};
-ghost use Rattle.tb_text.specs.Records.{text_at};
+ghost use Rattle.tb_reading.specs.Records.{text_at};
 ghost use Rattle.tb_case_records.specs.Ahead.{row_numbers};
 ghost use Rattle.tb_case_records.specs.Rows.{TellsFault, face_reading, node_reading, numbers, reading_of, row_fault, word_of};
 ghost use Rattle.tb_case_records.specs.Table.{Taken, Values};

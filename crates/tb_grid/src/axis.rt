@@ -5,7 +5,8 @@ ghost use Rattle.tb_grid.specs.Axis.{IsAxis, AreLinesThrough, AreLinesUpTo, HasT
 
 use std::marker::Model;
 
-pub(crate) const MOST_LINES: usize = 1024;
+/// The most lines that an axis may have.
+pub const MOST_LINES: usize = 1024;
 
 /// Why a list is not the lines of an axis.
 #[derive(Clone, Copy, Debug, PartialEq, Eq)]

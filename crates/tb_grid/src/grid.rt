@@ -9,7 +9,8 @@ use crate::counts::CellCounts;
 use std::marker::Model;
 use tb_places::{AxisName, Place};
 
-const MOST_CELLS: u64 = 262_144;
+/// The most cells that a grid may have.
+pub const MOST_CELLS: u64 = 262_144;
 
 /// The lines make this many cells, more than 262,144.
 #[derive(Clone, Copy, Debug, PartialEq, Eq)]

@@ -20,10 +20,10 @@ mod sides;
 #[cfg(test)]
 mod tests;
 
-pub use axis::{Axis, LinesFault, lines_through};
+pub use axis::{Axis, LinesFault, MOST_LINES, lines_through};
 pub use counts::CellCounts;
 pub use direction::{Direction, X, Y, Z};
-pub use grid::{Grid, TooManyCells};
+pub use grid::{Grid, MOST_CELLS, TooManyCells};
 pub use ids::{CellId, EdgeId, FaceId, NodeId};
 pub use level::{GridFault, axes_have_one_level_grid, graded};
 pub use levels::{Grading, GridTooLarge, LevelFault, level_grid};

@@ -14,7 +14,6 @@ pub mod SumInstances
 pub mod StrictOrder
 pub mod CeilingLaws
 pub mod SumsOfCeilings
-pub mod LineLaws
 pub mod DivisionLaws
 pub mod RationalSums
 pub mod Ratios

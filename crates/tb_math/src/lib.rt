@@ -5,8 +5,7 @@
 //!
 //! Proofs cite `proofs/`: `ReadRationals` and `ReadIntegers` prove identities and inequalities between polynomials (`by_reading`, `by_given`,
 //! `by_squares`); `RationalLaws`, `RationalOrder`, `StrictOrder`, `RationalProducts`, `DivisionLaws`, `Ratios` and `CeilingLaws` have the laws by
-//! name; `SumLaws` and `SumOrder` those of sums in any addition, `RationalSums` the same in ℚ and ℤ, `SumsOfCeilings` the rounded ones;
-//! `LineLaws` those of sums along a line.
+//! name; `SumLaws` and `SumOrder` those of sums in any addition, `RationalSums` the same in ℚ and ℤ, `SumsOfCeilings` the rounded ones.
 #![tactic(auto)]
 
 ghost use Rattle.std.specs.Prelude.{◌≡◌, ◌↔◌, ◌⊎◌, ℕ, ◌<◌, ◌*◌, ℤ, pos, ◌+ℤ◌, ◌*ℤ◌, ◌≤ℤ◌};

@@ -18,7 +18,7 @@ mod text;
 pub use buffer::{BUFFER_SIZE, OutputBuffer};
 pub use memory::{MemorySink, SteadySource};
 pub use sink::{Sink, SinkFault, put_all};
-pub use source::{InFault, MOST_INPUT_BYTES, Source, read_all};
+pub use source::{InFault, Source, read_all};
 pub use stream::{StdSink, StdSource};
 pub use text::{Text, write_text};
 use thiserror::Error;

@@ -38,9 +38,6 @@ pub enum InFault {
     NoMemory,
 }
 
-/// The most bytes that an input may have: 256 MiB. Definitions call it `most_input_bytes`.
-pub const MOST_INPUT_BYTES: usize = 268_435_456;
-
 // How many bytes are read at a time.
 const CHUNK: usize = 4096;
 

@@ -1,32 +1,31 @@
-// Laws of the reading of numbered records.
-ghost use Rattle.std.specs.Prelude.{◌≡◌, ◌++◌, ℕ, List, None, Some, Ok, Err};
+//! What joins reading and writing.
+ghost use Rattle.std.specs.Prelude.{◌≡◌, ℕ, List, Ok};
 ghost use Rattle.tb_detail.specs.Limits.{InLimits};
 ghost use Rattle.tb_detail.specs.declared.Detail.{Detail};
-ghost use Rattle.tb_text.specs.Details.{head_of};
-ghost use Rattle.tb_text.specs.Reading.{Numbered, detail_reading, first_record_fault, rows_of, whole_fault};
-ghost use Rattle.tb_text.specs.Records.{Row};
-ghost use Rattle.tb_text.specs.declared.fault.DetailFault.{DetailFault};
-ghost use Rattle.tb_text.specs.declared.fault.DetailKind.TheVariants.{NotFormat};
+ghost use Rattle.tb_records.specs.Records.{records_of};
+ghost use Rattle.tb_reading.specs.Reading.{detail_reading, numbered};
+ghost use Rattle.tb_canonical.specs.Canonical.{canonical_text};
 
-/// The number that a caller gives to the fault of a detail with no record but remarks counts only there.
-pub fn number_of_no_record()
-    ensures none { (number : ℕ) (given : List Numbered) → head_of (rows_of given) ≡ None
-        → first_record_fault given ≡ None
-        → detail_reading number given ≡ Err (whole_fault NotFormat number) }
-    ensures some { (number other : ℕ) (given : List Numbered) (head : Row) → head_of (rows_of given) ≡ Some head
-        → detail_reading number given ≡ detail_reading other given }
-{}
+use tb_canonical::canonical_reads_back;
+use tb_reading::read_details_are_in_limits;
 
-/// The first fault of records is the first fault of any list that goes on from them.
-pub fn refusals_stay()
-    ensures stays { (given more : List Numbered) (fault : DetailFault) → first_record_fault given ≡ Some fault
-        → first_record_fault (given ++ more) ≡ Some fault }
-    ensures refused { (number : ℕ) (given : List Numbered) (fault : DetailFault)
-        → first_record_fault given ≡ Some fault → detail_reading number given ≡ Err fault }
-{}
+/// The canonical text of a detail within limits reads as this detail: nothing is lost in writing.
+pub fn written_details_read_back()
+    ensures { (detail : Detail) → InLimits detail
+        → detail_reading 1 (numbered 1 (records_of (canonical_text detail))) ≡ Ok detail }
+{
+    canonical_reads_back();
+}
 
-/// A detail that was read is within limits.
-pub fn read_details_are_in_limits()
-    ensures { (number : ℕ) (given : List Numbered) (detail : Detail) → detail_reading number given ≡ Ok detail
-        → InLimits detail }
-{}
+/// A detail that was read from any text, in whatever order and form its records stood there, can be written, and its
+/// canonical text reads as the same detail.
+pub fn read_details_are_written()
+    ensures limits { (bytes : List ℕ) (detail : Detail)
+        → detail_reading 1 (numbered 1 (records_of bytes)) ≡ Ok detail → InLimits detail }
+    ensures same { (bytes : List ℕ) (detail : Detail)
+        → detail_reading 1 (numbered 1 (records_of bytes)) ≡ Ok detail
+        → detail_reading 1 (numbered 1 (records_of (canonical_text detail))) ≡ Ok detail }
+{
+    canonical_reads_back();
+    read_details_are_in_limits();
+}

@@ -2,8 +2,8 @@
 use Rattle.std.specs.Prelude.{ℕ, List, Result}
 use Rattle.tb_detail.specs.declared.Detail.{Detail}
 use Rattle.tb_records.specs.Records.{records_of}
-use Rattle.tb_text.specs.declared.fault.DetailFault.{DetailFault}
-use Rattle.tb_text.specs.Reading.{detail_reading, numbered}
+use Rattle.tb_reading.specs.declared.fault.DetailFault.{DetailFault}
+use Rattle.tb_reading.specs.Reading.{detail_reading, numbered}
 
 -- the detail of the records of these bytes, which are counted from 1, or its first fault
 abbrev pub detail_spelt : List ℕ → Result Detail DetailFault

@@ -1,8 +1,8 @@
 -- `solve`: what it answers to the bytes of a detail, and the text and the status of each answer.
 use Rattle.std.specs.Prelude.{◌≡◌, ℕ, List, Result, Ok, Err, codes}
 use Rattle.tb_detail.specs.declared.Detail.{Detail}
-use Rattle.tb_text.specs.declared.fault.DetailFault.{DetailFault}
-use Rattle.tb_text.specs.FaultTexts as detail
+use Rattle.tb_reading.specs.declared.fault.DetailFault.{DetailFault}
+use Rattle.tb_reading.specs.FaultTexts as detail
 use Rattle.tb_geometry.specs.Faults.{HasFault, IsAccepted}
 use Rattle.tb_geometry.specs.FaultTexts as body
 use Rattle.thermal_cli.specs.declared.solve.SolveAnswer.{SolveAnswer}

@@ -1,6 +1,6 @@
 use Rattle.std.proofs.Common.{◌∙◌, ◌++◌, ◌∷◌, [], List, append_assoc, ap, subst, sym}
-use Rattle.tb_text.specs.Builders.{Stands}
-use Rattle.tb_text.specs.Reading.{Numbered}
+use Rattle.tb_reading.specs.Builders.{Stands}
+use Rattle.tb_reading.specs.Reading.{Numbered}
 use Rattle.tb_bundle.specs.Details.{IsFedOne, detail_part}
 use Rattle.tb_bundle.proofs.DetailPart.{body_is, part_is}
 use Rattle.tb_bundle.proofs.detail.feed_all.Goals as goal

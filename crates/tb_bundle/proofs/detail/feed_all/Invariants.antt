@@ -1,6 +1,6 @@
 use Rattle.std.proofs.Common.{◌≡◌, ◌++◌, List, length}
-use Rattle.tb_text.specs.Builders.{Stands}
-use Rattle.tb_text.specs.Reading.{Numbered}
+use Rattle.tb_reading.specs.Builders.{Stands}
+use Rattle.tb_reading.specs.Reading.{Numbered}
 use Rattle.tb_bundle.specs.Details.{body_part, detail_part}
 use Rattle.tb_bundle.proofs.detail.feed_all.Given as goal
 

@@ -1,6 +1,6 @@
 use Rattle.std.proofs.Common.{◌∙◌, ◌++◌, drop, option_map, subst, sym}
 use Rattle.csv.specs.Records.{fields_of}
-use Rattle.tb_text.specs.Reading.{first_record_fault}
+use Rattle.tb_reading.specs.Reading.{first_record_fault}
 use Rattle.tb_case_records.specs.Table.{Refuses}
 use Rattle.tb_case_records.specs.declared.fault.BundleFault.TheVariants as bundle
 use Rattle.tb_case_records.specs.declared.fault.BundleRefusal.{BundleRefusal}

@@ -1,7 +1,7 @@
 use Rattle.std.proofs.Common.{◌∙◌, ap}
 use Rattle.std.specs.Prelude.{List}
-use Rattle.tb_text.specs.Reading.{detail_reading, numbered}
-use Rattle.tb_text.specs.Records.{Row}
+use Rattle.tb_reading.specs.Reading.{detail_reading, numbered}
+use Rattle.tb_reading.specs.Records.{Row}
 use Rattle.tb_canonical.proofs.WholeReading.{canonical_plain, canonical_reading, text_reads_back}
 use Rattle.tb_canonical.proofs.laws.canonical_reads_back.Goals as goal
 

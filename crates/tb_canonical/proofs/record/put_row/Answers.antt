@@ -1,7 +1,7 @@
 use Rattle.std.proofs.Common.{◌≡◌, ◌+◌, ◌<◌, ap, length, take, arith}
 use Rattle.std.proofs.lemmas.List.{take_all}
 use Rattle.tb_outside.proofs.Gathered.{gathers_both, gathers_same}
-use Rattle.tb_text.specs.Kinds.{fields}
+use Rattle.tb_reading.specs.Kinds.{fields}
 use Rattle.tb_canonical.specs.Canonical.{names_in}
 use Rattle.tb_canonical.proofs.Joined.{row_text, text_next, word_alone}
 use Rattle.tb_canonical.proofs.record.put_row.Goals as goal

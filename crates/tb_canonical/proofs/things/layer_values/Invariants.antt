@@ -1,5 +1,5 @@
 use Rattle.std.proofs.Common.{◌≡◌, ◌∷◌, map, take}
-use Rattle.tb_text.specs.declared.values.FieldValue.TheVariants.{Nothing, Number, Place}
+use Rattle.tb_reading.specs.declared.values.FieldValue.TheVariants.{Nothing, Number, Place}
 use Rattle.tb_canonical.proofs.things.layer_values.Given as goal
 
 -- the values so far

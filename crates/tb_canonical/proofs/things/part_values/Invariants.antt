@@ -1,5 +1,5 @@
 use Rattle.std.proofs.Common.{◌≡◌, ◌∷◌, map, take}
-use Rattle.tb_text.specs.declared.values.FieldValue.TheVariants.{Nothing, Number}
+use Rattle.tb_reading.specs.declared.values.FieldValue.TheVariants.{Nothing, Number}
 use Rattle.tb_canonical.proofs.things.part_values.Given as goal
 
 -- the values so far

@@ -1,7 +1,7 @@
 use Rattle.std.proofs.Common.{◌≤◌, ap, ◌∷◌, length-append, ◌≡◌, ◌∙◌, arith, [], drop, length, sym}
 use Rattle.std.proofs.lemmas.List.{drop_all}
 use Rattle.csv.specs.Records.{fields_of}
-use Rattle.tb_text.proofs.Fields.{drop_no_field}
+use Rattle.tb_reading.proofs.Fields.{drop_no_field}
 use Rattle.tb_case_records.specs.Table.{line_reading}
 use Rattle.tb_case_records.proofs.AxisLines.{line_fault_here, next_counted, next_line_faults, no_line_fault}
 use Rattle.tb_case_records.proofs.Fitting.{field_past}

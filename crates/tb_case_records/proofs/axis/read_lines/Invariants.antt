@@ -1,6 +1,6 @@
 use Rattle.std.proofs.Common.{◌≡◌, ◌+◌, ◌++◌, None, drop, length}
 use Rattle.csv.specs.Records.{fields_of}
-use Rattle.tb_text.specs.Records.{first_some}
+use Rattle.tb_reading.specs.Records.{first_some}
 use Rattle.tb_case_records.specs.Rows.{numbers}
 use Rattle.tb_case_records.specs.Table.{line_faults, line_reading}
 use Rattle.tb_case_records.proofs.AxisLines.{IsCounted}

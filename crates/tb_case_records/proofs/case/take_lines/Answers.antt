@@ -1,5 +1,5 @@
 use Rattle.std.proofs.Common.{◌≡◌, ◌∙◌, ◌*◌, sym, ap, subst, ℕ, ◌-◌, List, [], ◌∷◌, drop, length}
-use Rattle.tb_text.specs.Reading.{Numbered}
+use Rattle.tb_reading.specs.Reading.{Numbered}
 use Rattle.tb_places.specs.declared.AxisName.TheVariants.{X, Y, Z}
 use Rattle.tb_case_records.specs.Cases.{CaseForm, cells_in, form_of, head_table, lines_in}
 use Rattle.tb_case_records.specs.Table.{Axis, Exactly, Expected, IsPast, Stops}

@@ -1,5 +1,5 @@
 use Rattle.std.proofs.Common.{◌≡◌, ◌+◌, ◌≤◌, length}
-use Rattle.tb_text.specs.Reading.{numbered}
+use Rattle.tb_reading.specs.Reading.{numbered}
 use Rattle.tb_case_records.specs.Ahead.{without_remarks}
 use Rattle.tb_case_records.proofs.reader.next_record.Given as goal
 

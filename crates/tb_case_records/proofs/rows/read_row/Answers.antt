@@ -1,6 +1,6 @@
 use Rattle.std.proofs.Common.{◌≡◌, ◌+◌, ◌∙◌, ◌++◌, ◌∷◌, [], ℤ, ap, sym, arith, rules, of_z, to_z, w64, Err}
 use Rattle.csv.specs.Records.{fields_of}
-use Rattle.tb_text.proofs.Fields.{drop_no_field}
+use Rattle.tb_reading.proofs.Fields.{drop_no_field}
 use Rattle.tb_case_records.specs.Rows.{fault_in, reading_of}
 use Rattle.tb_case_records.proofs.RowFields.{all_read, fault_here, next_faults, next_read, no_fault, shaped}
 use Rattle.tb_case_records.proofs.rows.read_row.Goals as goal

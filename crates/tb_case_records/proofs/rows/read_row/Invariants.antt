@@ -1,6 +1,6 @@
 use Rattle.std.proofs.Common.{◌≡◌, ◌+◌, ◌++◌, ◌≤◌, drop}
 use Rattle.csv.specs.Records.{fields_of}
-use Rattle.tb_text.specs.Records.{first_some}
+use Rattle.tb_reading.specs.Records.{first_some}
 use Rattle.tb_case_records.specs.Rows.{number_faults, numbers, reading_of}
 use Rattle.tb_case_records.proofs.rows.read_row.Given as goal
 

@@ -1,6 +1,0 @@
-use Rattle.std.proofs.Common.{◌≡◌, map, take}
-use Rattle.tb_text.specs.Records.{number_in}
-use Rattle.tb_text.proofs.items.numbers_from.Given as goal
-
-abbrev pub invariant-loop-value : goal.invariant-loop-value
-invariant-loop-value l = l.numbers ≡ map number_in (take l.value-index l.values)

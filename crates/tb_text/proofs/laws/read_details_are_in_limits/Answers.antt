@@ -1,5 +1,0 @@
-use Rattle.tb_text.proofs.Within.{read_in_limits}
-use Rattle.tb_text.proofs.laws.read_details_are_in_limits.Goals as goal
-
-pub returns : goal.returns
-returns c = read_in_limits
