@@ -3,7 +3,7 @@ use Rattle.std.proofs.Common.{◌≡◌, ◌∙◌, ap, refl, sym, subst, ℕ, �
 use Rattle.std.proofs.lemmas.List.{drop-drop}
 use Rattle.tb_grid.specs.Axis.{interval_count}
 use Rattle.tb_grid.specs.Grid.{Axes}
-use Rattle.tb_sums.specs.declared.Interval.{Interval}
+use Rattle.tb_terms.specs.declared.Interval.{Interval}
 use Rattle.tb_reading.specs.Reading.{Numbered}
 use Rattle.tb_reading.specs.Records.{text_at}
 use Rattle.tb_case_records.specs.declared.case.CaseProof.{CaseProof}

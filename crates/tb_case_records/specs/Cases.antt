@@ -7,7 +7,7 @@ use Rattle.tb_detail.specs.Names.{Text}
 use Rattle.tb_grid.specs.Axis.{interval_count}
 use Rattle.tb_grid.specs.Grid.{Axes}
 use Rattle.tb_geometry.specs.declared.case.Case.{Case}
-use Rattle.tb_sums.specs.declared.Interval.{Interval}
+use Rattle.tb_terms.specs.declared.Interval.{Interval}
 use Rattle.tb_numbers.specs.Reading.{whole_reading}
 use Rattle.tb_numbers.specs.declared.parse.NumberFault.{NumberFault}
 use Rattle.tb_reading.specs.Reading.{Numbered}

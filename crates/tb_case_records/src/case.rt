@@ -16,7 +16,7 @@ use tb_detail::Items;
 use tb_geometry::Case;
 use tb_grid::{Axis, CellCounts, Grid};
 use tb_places::AxisName;
-use tb_sums::Interval;
+use tb_terms::Interval;
 
 /// What a bundle claims of a case: an interval, and what proves it.
 #[derive(Debug, Drop, PartialEq)]

@@ -10,7 +10,7 @@ use crate::reader::RecordReader;
 use crate::rows::field;
 use tb_numbers::{NumberFault, parse_decimal, parse_whole};
 use tb_records::{ByteRecord, NoMemory};
-use tb_sums::Interval;
+use tb_terms::Interval;
 
 /// How a search for a narrow interval ended.
 #[derive(Clone, Copy, Debug, PartialEq, Eq)]

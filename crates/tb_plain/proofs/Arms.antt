@@ -17,7 +17,7 @@ use Rattle.tb_model.specs.declared.FaceKind.TheVariants.{Inner, Shut, Idle}
 use Rattle.tb_model.specs.Mesh.{kind}
 use Rattle.tb_model.specs.Energy.{of_solid, at_surface}
 use Rattle.tb_model.specs.Values.{case_of}
-use Rattle.tb_sums.specs.Terms.{field_cell_term, field_face_term, flux_cell_term, flux_face_term}
+use Rattle.tb_terms.specs.Terms.{field_cell_term, field_face_term, flux_cell_term, flux_face_term}
 use Rattle.tb_plain.specs.declared.site.Site.{Site}
 use Rattle.tb_plain.specs.declared.summation.Quantity.{Quantity}
 use Rattle.tb_plain.specs.declared.summation.Quantity.TheVariants.{Energy, Loss, Inflow, Outflow}

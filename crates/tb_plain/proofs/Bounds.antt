@@ -16,8 +16,8 @@ use Rattle.tb_model.specs.declared.FaceKind.TheVariants.{Inner, Surface, Shut, I
 use Rattle.tb_model.specs.Mesh.{kind}
 use Rattle.tb_model.specs.Energy.{of_solid, at_surface, rounded_up}
 use Rattle.tb_model.specs.Values.{case_of}
-use Rattle.tb_sums.specs.Limits.{IsConductivity, IsResistance}
-use Rattle.tb_sums.proofs.FieldTerms.{field_cell-bounded, field_face-bounded}
+use Rattle.tb_terms.specs.Limits.{IsConductivity, IsResistance}
+use Rattle.tb_terms.proofs.FieldTerms.{field_cell-bounded, field_face-bounded}
 use Rattle.tb_plain.specs.declared.site.Site.{Site}
 use Rattle.tb_plain.specs.declared.summation.Quantity.{Quantity}
 use Rattle.tb_plain.specs.declared.summation.Quantity.TheVariants.{Energy, Loss, Inflow, Outflow}

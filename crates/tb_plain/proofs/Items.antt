@@ -13,8 +13,8 @@ use Rattle.tb_places.proofs.Faces.{face_number_below}
 use Rattle.tb_model.specs.Energy.{Case, spread, boundary, field_terms, flux_terms, cell_energy, surface_energy, cell_loss, surface_loss, passage}
 use Rattle.tb_model.specs.Mesh.{cross_section}
 use Rattle.tb_model.specs.Values.{field_of, flux_of}
-use Rattle.tb_sums.specs.Limits.{IsConductivity, IsResistance, IsWidth, IsDifference, IsFlow}
-use Rattle.tb_sums.specs.Terms.{area_of, FitsFieldCell, FitsFieldFace, FitsFluxCell, FitsFluxFace, field_cell_term, field_face_term, flux_cell_term, flux_face_term}
+use Rattle.tb_terms.specs.Limits.{IsConductivity, IsResistance, IsWidth, IsDifference, IsFlow}
+use Rattle.tb_terms.specs.Terms.{area_of, FitsFieldCell, FitsFieldFace, FitsFluxCell, FitsFluxFace, field_cell_term, field_face_term, flux_cell_term, flux_face_term}
 use Rattle.tb_plain.specs.declared.grid.PlainGrid.{PlainGrid}
 use Rattle.tb_plain.specs.declared.site.Site.{Site}
 use Rattle.tb_plain.specs.Plain.{IsPlain, IsCellAt, IsFaceAt, IsNodeAt, lines_of, mesh_of}

@@ -17,9 +17,9 @@ use Rattle.tb_model.specs.Mesh.{above, below, kind, kind_between}
 use Rattle.tb_model.specs.Energy.{of_solid, at_surface}
 use Rattle.tb_model.specs.Refinement.{holds_middle}
 use Rattle.tb_model.specs.Values.{case_of, unscaled}
-use Rattle.tb_sums.specs.Limits.{IsConductivity, IsResistance}
-use Rattle.tb_sums.proofs.FieldTerms.{field_cell-not_below_zero, field_face-not_below_zero}
-use Rattle.tb_sums.proofs.FluxTerms.{flux_cell-not_below_zero, flux_face-not_below_zero}
+use Rattle.tb_terms.specs.Limits.{IsConductivity, IsResistance}
+use Rattle.tb_terms.proofs.FieldTerms.{field_cell-not_below_zero, field_face-not_below_zero}
+use Rattle.tb_terms.proofs.FluxTerms.{flux_cell-not_below_zero, flux_face-not_below_zero}
 use Rattle.tb_plain.specs.declared.grid.PlainGrid.{PlainGrid}
 use Rattle.tb_plain.specs.declared.site.Site.{Site}
 use Rattle.tb_plain.specs.declared.summation.Quantity.{Quantity}

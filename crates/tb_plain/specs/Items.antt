@@ -3,10 +3,10 @@ use Rattle.std.specs.Prelude.{ℕ, suc, ◌-◌, ◌^◌, List, [], ◌∷◌, s
 use Rattle.tb_places.specs.declared.AxisName.{AxisName}
 use Rattle.tb_places.specs.Places.{along, second, third}
 use Rattle.tb_model.specs.Energy.{Case}
-use Rattle.tb_sums.specs.declared.field.FieldCell.{FieldCell}
-use Rattle.tb_sums.specs.declared.field.FieldFace.{FieldFace}
-use Rattle.tb_sums.specs.declared.flux.FluxCell.{FluxCell}
-use Rattle.tb_sums.specs.declared.flux.FluxFace.{FluxFace}
+use Rattle.tb_terms.specs.declared.field.FieldCell.{FieldCell}
+use Rattle.tb_terms.specs.declared.field.FieldFace.{FieldFace}
+use Rattle.tb_terms.specs.declared.flux.FluxCell.{FluxCell}
+use Rattle.tb_terms.specs.declared.flux.FluxFace.{FluxFace}
 use Rattle.tb_plain.specs.declared.grid.PlainGrid.{PlainGrid}
 use Rattle.tb_plain.specs.declared.site.Site.{Site}
 use Rattle.tb_plain.specs.Plain.{lines_of, mesh_of}

@@ -4,7 +4,7 @@ ghost use Rattle.tb_places.specs.declared.AxisName.TheVariants.{X, Y, Z};
 ghost use Rattle.tb_places.specs.Places.{second, third};
 ghost use Rattle.tb_model.specs.Energy.{rounded_up};
 ghost use Rattle.tb_math.specs.Rational.{int};
-ghost use Rattle.tb_sums.specs.Limits.{IsConductivity, IsResistance};
+ghost use Rattle.tb_terms.specs.Limits.{IsConductivity, IsResistance};
 ghost use Rattle.tb_plain.specs.Plain.{IsPlain, IsCellAt, IsFaceAt};
 ghost use Rattle.tb_plain.specs.Values.{IsFlows};
 ghost use Rattle.tb_plain.specs.Summation.{IsSummable, axis_up, cell_up, cells_up, entered, face_up, faces_up, layers_up, line_up, lines_up, mesh_under, solid_up, surface_up, terms_under};

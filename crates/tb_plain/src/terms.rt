@@ -10,7 +10,7 @@ use crate::grid::PlainGrid;
 use crate::site::{Site, second_axis, third_axis};
 use crate::values::{flow, rise, temperature};
 use tb_numbers::{PastLimit, Sum, Up};
-use tb_sums::{FieldCell, FieldFace, FluxCell, FluxFace, Functional};
+use tb_terms::{FieldCell, FieldFace, FluxCell, FluxFace, Functional};
 
 /// Adds a term, rounded up.
 pub fn add<F: Functional>(term: &F, sum: &mut Sum<Up>) -> Result<(), PastLimit>

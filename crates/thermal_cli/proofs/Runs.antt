@@ -3,7 +3,7 @@ use Rattle.std.proofs.Common.{◌≡◌, ◌<◌, ◌≤◌, ◌+◌, ◌⊎◌,
 use Rattle.tb_outside.specs.Faults.{Rose, Stands}
 use Rattle.tb_outside.specs.Limits.{most_input_bytes}
 use Rattle.tb_outside.specs.Outside.{Adds, IsAtEnd, Takes, TakesExactly}
-use Rattle.tb_sums.specs.declared.Interval.{Interval}
+use Rattle.tb_terms.specs.declared.Interval.{Interval}
 use Rattle.thermal_cli.specs.declared.answer.Answer.{Answer}
 use Rattle.thermal_cli.specs.declared.check.CheckAnswer.{CheckAnswer}
 use Rattle.thermal_cli.specs.declared.check.CheckAnswer.TheVariants as check

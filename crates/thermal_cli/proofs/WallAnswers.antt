@@ -1,7 +1,7 @@
 -- The answer to a wall's bundle.
 use Rattle.std.proofs.Common.{◌≡◌, ℤ, pos, ◌-ℤ◌, sym, ap, subst, ◌∙◌, arith}
 use Rattle.std.proofs.lemmas.Int.{ints}
-use Rattle.tb_sums.specs.declared.Interval.{Interval}
+use Rattle.tb_terms.specs.declared.Interval.{Interval}
 use Rattle.tb_model.specs.Faults.{IsFirstUnbalanced}
 use Rattle.thermal_cli.specs.declared.check.CheckAnswer.{CheckAnswer}
 use Rattle.thermal_cli.specs.declared.check.CheckAnswer.TheVariants as answer

@@ -10,8 +10,8 @@ use Rattle.tb_math.proofs.CeilingLaws.{ceiling-least}
 use Rattle.tb_places.specs.declared.AxisName.TheVariants.{X, Y, Z}
 use Rattle.tb_model.specs.Energy.{Terms, rounded_up, number_of_terms, cell_loss, surface_loss, passage, flux_terms}
 use Rattle.tb_model.specs.Values.{flux_of}
-use Rattle.tb_sums.specs.Limits.{IsConductivity, IsResistance, IsWidth, IsFlow}
-use Rattle.tb_sums.proofs.FluxTerms.{flux_cell-bounded, flux_face-bounded}
+use Rattle.tb_terms.specs.Limits.{IsConductivity, IsResistance, IsWidth, IsFlow}
+use Rattle.tb_terms.proofs.FluxTerms.{flux_cell-bounded, flux_face-bounded}
 use Rattle.thermal_cli.specs.declared.wall.Wall.{Wall}
 use Rattle.thermal_cli.specs.Limits.{IsInLimits}
 use Rattle.thermal_cli.specs.Wall.{face_values_of, mesh_of}

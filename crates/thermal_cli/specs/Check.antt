@@ -2,7 +2,7 @@
 use Rattle.std.specs.Prelude.{◌≡◌, ◌≢◌, ◌++◌, ℕ, List, None, Some, codes, decimal}
 use Rattle.tb_records.specs.Records.{records_of}
 use Rattle.tb_numbers.specs.Texts.{fixed_text}
-use Rattle.tb_sums.specs.declared.Interval.{Interval}
+use Rattle.tb_terms.specs.declared.Interval.{Interval}
 use Rattle.tb_model.specs.Energy.{IsBalanced}
 use Rattle.tb_model.specs.Faults.{IsFirstUnbalanced}
 use Rattle.tb_model.specs.Refinement.{scene_of}

@@ -4,7 +4,7 @@ use Rattle.tb_outside.specs.Faults.{Rose, Stands}
 use Rattle.tb_outside.specs.Limits.{most_input_bytes}
 use Rattle.tb_outside.specs.Outside.{Adds, IsAtEnd, Takes, TakesAtMost, TakesExactly, WritesFront}
 use Rattle.thermal_cli.specs.declared.answer.Answer.{Answer}
-use Rattle.tb_sums.specs.declared.Interval.{Interval}
+use Rattle.tb_terms.specs.declared.Interval.{Interval}
 use Rattle.thermal_cli.specs.declared.check.CheckAnswer.TheVariants.{Accepted}
 use Rattle.thermal_cli.specs.declared.status.Status.{Status}
 use Rattle.thermal_cli.specs.declared.status.Status.TheVariants as status

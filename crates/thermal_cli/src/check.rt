@@ -16,7 +16,7 @@ use tb_numbers::fixed;
 use tb_outside::{OutputBuffer, Sink, Text};
 use tb_plain::PlainGrid;
 use tb_records::{NoMemory, first_records};
-use tb_sums::Interval;
+use tb_terms::Interval;
 
 /// What `check` answers to a bundle.
 #[derive(Clone, Copy, Debug, PartialEq, Eq)]

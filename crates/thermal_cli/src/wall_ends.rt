@@ -8,7 +8,7 @@ use std::alloc::Global;
 use tb_detail::{Content, Detail, Environment, Items, Material, Name, SpaceBox, Span};
 use tb_plain::{PlainGrid, lower_end, upper_end};
 use tb_records::NoMemory;
-use tb_sums::Interval;
+use tb_terms::Interval;
 
 /// The case in which the first environment alone is at 1.
 const INSIDE: u8 = 1;

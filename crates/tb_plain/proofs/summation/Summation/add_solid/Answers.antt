@@ -1,9 +1,9 @@
 use Rattle.std.proofs.Common.{◌∙◌, ◌^◌, ap, pos, sym, subst}
 use Rattle.tb_math.specs.Ceiling.{ceiling}
 use Rattle.tb_plain.specs.declared.summation.Quantity.TheVariants.{Loss}
-use Rattle.tb_sums.specs.declared.field.FieldCell.{FieldCell}
-use Rattle.tb_sums.specs.declared.flux.FluxCell.{FluxCell}
-use Rattle.tb_sums.specs.Terms.{FitsFieldCell, FitsFluxCell, field_cell_term, flux_cell_term}
+use Rattle.tb_terms.specs.declared.field.FieldCell.{FieldCell}
+use Rattle.tb_terms.specs.declared.flux.FluxCell.{FluxCell}
+use Rattle.tb_terms.specs.Terms.{FitsFieldCell, FitsFluxCell, field_cell_term, flux_cell_term}
 use Rattle.tb_plain.proofs.Arms.{energy_solid, err_along, flow_solid, flows_of, loss_solid, nothing, ok_along, temperatures_of}
 use Rattle.tb_plain.proofs.Items.{field_cell_fits, flux_cell_fits}
 use Rattle.tb_plain.proofs.summation.Summation.add_solid.Goals as goal

@@ -1,9 +1,9 @@
 use Rattle.std.proofs.Common.{◌∙◌, ◌^◌, ap, pos, neg_ℤ, ℤ, sym, subst}
 use Rattle.tb_math.specs.Ceiling.{ceiling}
 use Rattle.tb_plain.specs.declared.summation.Quantity.TheVariants.{Loss}
-use Rattle.tb_sums.specs.declared.field.FieldFace.{FieldFace}
-use Rattle.tb_sums.specs.declared.flux.FluxFace.{FluxFace}
-use Rattle.tb_sums.specs.Terms.{FitsFieldFace, FitsFluxFace, field_face_term, flux_face_term}
+use Rattle.tb_terms.specs.declared.field.FieldFace.{FieldFace}
+use Rattle.tb_terms.specs.declared.flux.FluxFace.{FluxFace}
+use Rattle.tb_terms.specs.Terms.{FitsFieldFace, FitsFluxFace, field_face_term, flux_face_term}
 use Rattle.tb_model.specs.Values.{case_of}
 use Rattle.tb_plain.specs.Values.{positive_part}
 use Rattle.tb_plain.proofs.Arms.{energy_surface, err_along, flows_of, inflow_surface, is_negated, is_stored, loss_surface, ok_along, outflow_surface, temperatures_of}
