@@ -1,0 +1,17 @@
+pub mod Slopes
+pub mod Counted
+pub mod Unique
+pub mod Wide
+pub mod Corners
+pub mod Local
+pub mod Near
+pub mod Quadratic
+pub mod Around
+pub mod Touching
+pub mod Pulls
+pub mod Same
+pub mod NodeMoves
+pub mod SequenceLaws
+pub mod Bridge
+pub mod FlowLaws
+pub mod TwoFaces
