@@ -33,7 +33,7 @@ use Rattle.tb_weighted.specs.Forms.{IsFormMove}
 use Rattle.tb_weighted.specs.Moves.{IsNodeMove}
 use Rattle.tb_weighted.specs.OnMesh.{IsFormOf, mesh_cell, mesh_face, mesh_level, mesh_forms}
 
-int-neg : (z : ℤ) → int (neg_ℤ z) ≡ neg_ℚ (int z)
+pub int-neg : (z : ℤ) → int (neg_ℤ z) ≡ neg_ℚ (int z)
 unfolding neg_ℚ int
 int-neg z = refl
 

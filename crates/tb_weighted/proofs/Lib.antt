@@ -15,3 +15,4 @@ pub mod SequenceLaws
 pub mod Bridge
 pub mod FlowLaws
 pub mod TwoFaces
+pub mod FlowBridge

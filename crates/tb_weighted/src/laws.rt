@@ -5,10 +5,11 @@ ghost use Rattle.tb_model.specs.Energy.{Case};
 ghost use Rattle.tb_model.specs.Values.{field_of};
 ghost use Rattle.tb_weighted.specs.Forms.{Forms, form_energy};
 ghost use Rattle.tb_weighted.specs.Least.{IsNearestLeast, parabola};
-ghost use Rattle.tb_weighted.specs.Moves.{IsNodeMove};
-ghost use Rattle.tb_weighted.specs.OnMesh.{IsFormOf};
+ghost use Rattle.tb_weighted.specs.Moves.{Flows, IsNodeMove, whole_flux};
+ghost use Rattle.tb_weighted.specs.Flows.{FlowForms, flow_energy};
+ghost use Rattle.tb_weighted.specs.OnMesh.{IsFormOf, IsFlowFormOf};
 ghost use Rattle.tb_weighted.specs.Forms.{IsFormMove, values_of};
-ghost use Rattle.tb_weighted.specs.Weighted.{weighted_field};
+ghost use Rattle.tb_weighted.specs.Weighted.{weighted_field, weighted_flux};
 
 /// A form with the weights of a mesh has the weighted energy of each field on the mesh, and its moves are the moves
 /// of nodes.
@@ -23,4 +24,10 @@ pub fn forms_are_energies()
 pub fn one_nearest_least()
     ensures { (a b lo hi p x y : ℤ) → pos 0 ≤ℤ a → lo ≤ℤ p → p ≤ℤ hi → IsNearestLeast (parabola a b) lo hi p x
         → IsNearestLeast (parabola a b) lo hi p y → x ≡ y }
+{}
+
+/// The same of a flux: a form of flows with the weights of a mesh has the weighted energy of each whole flux.
+pub fn flow_forms_are_energies()
+    ensures { (m : Mesh) (inside : Case) (f : FlowForms) (q : Flows) → IsFlowFormOf m inside f
+        → flow_energy f q ≡ weighted_flux m inside (whole_flux q) }
 {}
