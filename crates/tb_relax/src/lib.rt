@@ -1,0 +1,15 @@
+//! The solver's moves on a grid: tables of weights that cells and faces share, and the code of each move.
+//!
+//! A [`Table`] has the weights of the two weighted energies of `tb_weighted`. A move of a node reads the parabola that the
+//! field's energy is in the node's value, from the cells and surfaces that touch it, and goes to its least value. A
+//! move of a loop does the same with the flux's energy and the four faces round an edge.
+#![tactic(auto)]
+
+mod flow;
+mod node;
+mod pull;
+mod sound;
+mod table;
+
+pub use pull::{Pull, Side};
+pub use table::{CellWeights, FaceWeight, Table};

@@ -1,0 +1,33 @@
+//! The laws of moves: each is the contract of a function that does nothing.
+ghost use Rattle.std.specs.Prelude.{◌≡◌, ℕ, ℤ, List, pos, ◌≤ℤ◌};
+ghost use Rattle.tb_model.specs.Mesh.{Mesh};
+ghost use Rattle.tb_model.specs.Energy.{Case};
+ghost use Rattle.tb_model.specs.Values.{field_of};
+ghost use Rattle.tb_weighted.specs.Forms.{Forms, form_energy};
+ghost use Rattle.tb_weighted.specs.Least.{IsNearestLeast, parabola};
+ghost use Rattle.tb_weighted.specs.Moves.{Flows, IsNodeMove, whole_flux};
+ghost use Rattle.tb_weighted.specs.Flows.{FlowForms, flow_energy};
+ghost use Rattle.tb_weighted.specs.OnMesh.{IsFormOf, IsFlowFormOf};
+ghost use Rattle.tb_weighted.specs.Forms.{IsFormMove, values_of};
+ghost use Rattle.tb_weighted.specs.Weighted.{weighted_field, weighted_flux};
+
+/// A form with the weights of a mesh has the weighted energy of each field on the mesh, and its moves are the moves
+/// of nodes.
+pub fn forms_are_energies()
+    ensures energy { (m : Mesh) (inside : Case) (f : Forms) (values : List ℤ) → IsFormOf m inside f
+        → form_energy f (values_of f.cells values) ≡ weighted_field m inside (field_of m.cells values) }
+    ensures moves { (m : Mesh) (inside : Case) (f : Forms) (node : ℕ) (old new : List ℤ) → IsFormOf m inside f
+        → IsFormMove f node old new → IsNodeMove m inside node old new }
+{}
+
+/// Of a parabola that opens upwards there is one nearest least place.
+pub fn one_nearest_least()
+    ensures { (a b lo hi p x y : ℤ) → pos 0 ≤ℤ a → lo ≤ℤ p → p ≤ℤ hi → IsNearestLeast (parabola a b) lo hi p x
+        → IsNearestLeast (parabola a b) lo hi p y → x ≡ y }
+{}
+
+/// The same of a flux: a form of flows with the weights of a mesh has the weighted energy of each whole flux.
+pub fn flow_forms_are_energies()
+    ensures { (m : Mesh) (inside : Case) (f : FlowForms) (q : Flows) → IsFlowFormOf m inside f
+        → flow_energy f q ≡ weighted_flux m inside (whole_flux q) }
+{}
