@@ -26,69 +26,69 @@ pub record IsAir (o : Option Content) : Type 0 where
   pub resistance : ℕ
   pub fills : o ≡ Some (Air environment resistance)
 
-record IsOfSolid (o : Option Content) : Type 0 where
-  material : ℕ
-  fills : o ≡ Some (Solid material)
+pub record IsOfSolid (o : Option Content) : Type 0 where
+  pub material : ℕ
+  pub fills : o ≡ Some (Solid material)
 
-air_below : (o u : Option Content) → IsOfSolid u → IsSurface (kind_between o u) → IsAir o
+pub air_below : (o u : Option Content) → IsOfSolid u → IsSurface (kind_between o u) → IsAir o
 air_below (Some (Solid n)) u solid surface = absurd (subst (λ (v : Option Content). IsSurface (kind_between (Some (Solid n)) v)) solid.fills surface)
 air_below (Some (Air e rs)) u solid surface = record { environment = e; resistance = rs; fills = refl }
 air_below None u solid surface = absurd (subst (λ (v : Option Content). IsSurface (kind_between None v)) solid.fills surface)
 
-air_above : (o u : Option Content) → IsOfSolid o → IsSurface (kind_between o u) → IsAir u
+pub air_above : (o u : Option Content) → IsOfSolid o → IsSurface (kind_between o u) → IsAir u
 air_above o (Some (Solid n)) solid surface = absurd (subst (λ (v : Option Content). IsSurface (kind_between v (Some (Solid n)))) solid.fills surface)
 air_above o (Some (Air e rs)) solid surface = record { environment = e; resistance = rs; fills = refl }
 air_above o None solid surface = absurd (subst (λ (v : Option Content). IsSurface (kind_between v None)) solid.fills surface)
 
-surface_above : (o u : Option Content) → IsOfSolid o → IsAir u → IsSurface (kind_between o u)
+pub surface_above : (o u : Option Content) → IsOfSolid o → IsAir u → IsSurface (kind_between o u)
 surface_above o u solid air = rw (solid.fills, air.fills) tt
 
-surface_below : (o u : Option Content) → IsAir o → IsOfSolid u → IsSurface (kind_between o u)
+pub surface_below : (o u : Option Content) → IsAir o → IsOfSolid u → IsSurface (kind_between o u)
 surface_below o u air solid = rw (solid.fills, air.fills) tt
 
-air_or_solid : (o : Option Content) → o ≢ None → (IsOfSolid o → ⊥) → IsAir o
+pub air_or_solid : (o : Option Content) → o ≢ None → (IsOfSolid o → ⊥) → IsAir o
 air_or_solid (Some (Solid n)) filled other = absurd (other (record { material = n; fills = refl }))
 air_or_solid (Some (Air e rs)) filled other = record { environment = e; resistance = rs; fills = refl }
 air_or_solid None filled other = absurd (filled refl)
 
-not_solid : (o : Option Content) → IsAir o → IsOfSolid o → ⊥
+pub not_solid : (o : Option Content) → IsAir o → IsOfSolid o → ⊥
 not_solid o air solid = absurd (cc (air.fills, solid.fills))
 
-not_empty : IsAir None → ⊥
+pub not_empty : IsAir None → ⊥
 not_empty air = absurd (cc air.fills)
 
 -- ---- one line of cells
 
-above_within : (n i : ℕ) (f : ℕ → Option Content) → i < n → above n f i ≡ f i
+pub above_within : (n i : ℕ) (f : ℕ → Option Content) → i < n → above n f i ≡ f i
 above_within n i f h = grind arith
 
-above_past : (n i : ℕ) (f : ℕ → Option Content) → n ≤ i → above n f i ≡ None
+pub above_past : (n i : ℕ) (f : ℕ → Option Content) → n ≤ i → above n f i ≡ None
 above_past n i f h = grind arith
 
-next_on_line : (n i : ℕ) (f : ℕ → Option Content) → i + 1 < n → kind_between (below f (i + 1)) (above n f (i + 1)) ≡ kind_between (f i) (f (i + 1))
+pub next_on_line : (n i : ℕ) (f : ℕ → Option Content) → i + 1 < n → kind_between (below f (i + 1)) (above n f (i + 1)) ≡ kind_between (f i) (f (i + 1))
 next_on_line n i f h = rw (above_within n (i + 1) f h, add-one) refl
 
-end_of_line : (n i : ℕ) (f : ℕ → Option Content) → n ≤ i + 1 → kind_between (below f (i + 1)) (above n f (i + 1)) ≡ kind_between (f i) None
+pub end_of_line : (n i : ℕ) (f : ℕ → Option Content) → n ≤ i + 1 → kind_between (below f (i + 1)) (above n f (i + 1)) ≡ kind_between (f i) None
 end_of_line n i f h = rw (above_past n (i + 1) f h, add-one) refl
 
 -- the high face of a solid cell is a surface only where air follows on the line
-record HasAirAbove (n i : ℕ) (f : ℕ → Option Content) : Type 0 where
-  within : i + 1 < n
-  air : IsAir (f (i + 1))
+pub record HasAirAbove (n i : ℕ) (f : ℕ → Option Content) : Type 0 where
+  pub within : i + 1 < n
+  pub air : IsAir (f (i + 1))
 
-high_air : (n i : ℕ) (f : ℕ → Option Content) → IsOfSolid (f i) → IsSurface (kind_between (below f (i + 1)) (above n f (i + 1))) → HasAirAbove n i f
+pub high_air : (n i : ℕ) (f : ℕ → Option Content) → IsOfSolid (f i) → IsSurface (kind_between (below f (i + 1)) (above n f (i + 1))) → HasAirAbove n i f
 high_air n i f solid surface = ⊎_elim
     (λ (h : i + 1 < n). record { within = h; air = air_above (f i) (f (i + 1)) solid (subst IsSurface (next_on_line n i f h) surface) })
     (λ (h : n ≤ i + 1). absurd (not_empty (air_above (f i) None solid (subst IsSurface (end_of_line n i f h) surface))))
     (cases_lt (i + 1) n)
 
 -- and the low face only where air comes before
-record HasAirBelow (i : ℕ) (f : ℕ → Option Content) : Type 0 where
-  index : ℕ
-  is : index + 1 ≡ i
-  air : IsAir (f index)
+pub record HasAirBelow (i : ℕ) (f : ℕ → Option Content) : Type 0 where
+  pub index : ℕ
+  pub is : index + 1 ≡ i
+  pub air : IsAir (f index)
 
-low_air : (n i : ℕ) (f : ℕ → Option Content) → i < n → IsOfSolid (f i) → IsSurface (kind_between (below f i) (above n f i)) → HasAirBelow i f
+pub low_air : (n i : ℕ) (f : ℕ → Option Content) → i < n → IsOfSolid (f i) → IsSurface (kind_between (below f i) (above n f i)) → HasAirBelow i f
 low_air n zero f h solid surface =
     absurd (not_empty (air_below None (f zero) solid (subst (λ (u : Option Content). IsSurface (kind_between None u)) (above_within n zero f h) surface)))
 low_air n (suc i) f h solid surface = record {
@@ -99,20 +99,20 @@ low_air n (suc i) f h solid surface = record {
 
 -- ---- cells of a mesh
 
-is_of_solid : (m : Mesh) (p : Place) → IsSolid m p → IsOfSolid (m.occupant p.i p.j p.k)
+pub is_of_solid : (m : Mesh) (p : Place) → IsSolid m p → IsOfSolid (m.occupant p.i p.j p.k)
 is_of_solid m p solid = record { material = solid.material; fills = solid.fills }
 
-is_solid : (m : Mesh) (p : Place) → IsOfSolid (m.occupant p.i p.j p.k) → IsSolid m p
+pub is_solid : (m : Mesh) (p : Place) → IsOfSolid (m.occupant p.i p.j p.k) → IsSolid m p
 is_solid m p solid = record { material = solid.material; fills = solid.fills }
 
 -- the face between a cell and the next one
-kind_between_next : (m : Mesh) (a : AxisName) (p : Place) → let q = ahead a 1 p in IsCell m.cells q →
+pub kind_between_next : (m : Mesh) (a : AxisName) (p : Place) → let q = ahead a 1 p in IsCell m.cells q →
     kind_at m a q ≡ kind_between (m.occupant p.i p.j p.k) (m.occupant q.i q.j q.k)
 kind_between_next m X p cell = next_on_line (m.cells X) p.i (λ n. m.occupant n p.j p.k) cell.0
 kind_between_next m Y p cell = next_on_line (m.cells Y) p.j (λ n. m.occupant p.i n p.k) cell.1
 kind_between_next m Z p cell = next_on_line (m.cells Z) p.k (λ n. m.occupant p.i p.j n) cell.2
 
-surface_next : (m : Mesh) (a : AxisName) (p q : Place) → ahead a 1 p ≡ q → IsCell m.cells q →
+pub surface_next : (m : Mesh) (a : AxisName) (p q : Place) → ahead a 1 p ≡ q → IsCell m.cells q →
     IsSurface (kind_between (m.occupant p.i p.j p.k) (m.occupant q.i q.j q.k)) → IsSurface (kind_at m a q)
 surface_next m a p q next = subst
     (λ (r : Place). IsCell m.cells r → IsSurface (kind_between (m.occupant p.i p.j p.k) (m.occupant r.i r.j r.k)) → IsSurface (kind_at m a r)) next

@@ -21,6 +21,7 @@ ghost use Rattle.tb_places.specs.Places.{cell_count};
 ghost use Rattle.tb_grid.specs.Grid.{counts_of};
 ghost use Rattle.tb_walk.specs.Marks.{AllReachOpenings, AreReached, IsFirstWithoutOpening};
 
+pub use neighbours::PlacedCell;
 use std::alloc::{AllocError, Global};
 use tb_grid::{CellId, Grid};
 
