@@ -18,7 +18,7 @@ use Rattle.tb_grid.specs.Grid.{Axes, counts_of, lines_of}
 use Rattle.tb_model.specs.Refinement.{high, low}
 use Rattle.tb_geometry.specs.Base.{HasCube, IsBaseCell, base_axes, base_counts, base_lines, base_number}
 use Rattle.tb_geometry.specs.Bodies.{Keeps, filled_with, holder, no_box, occupant_of}
-use Rattle.tb_geometry.specs.Grids.{CarriesBody, low_side, occupant_at}
+use Rattle.tb_geometry.specs.Grids.{CarriesBody, LiesInBaseCell, low_side, occupant_at}
 use Rattle.tb_geometry.specs.declared.occupant.Occupant.{Occupant}
 use Rattle.tb_geometry.proofs.Carrying.{first_is_least, last_is_greatest, spans_along}
 use Rattle.tb_geometry.proofs.Coordinates.{high_line, low_line}
@@ -69,55 +69,50 @@ cell_between d g base is carries p cell a =
     (between_base_ends d g carries a (index_along a p) (cell_along g p cell a))
 
 -- the base cell has the cube at the low corner of the cell
-has_low_corner : (boxes : List SpaceBox) (g base : Axes) (p q : Place) → base ≡ base_axes boxes →
-    ((a : AxisName) → IsIntervalOf (lines_of base a) (low_side g a p) (index_along a q)) →
+has_low_corner : (boxes : List SpaceBox) (g : Axes) (p q : Place) → LiesInBaseCell boxes g p q →
     HasCube boxes q (low_side g X p) (low_side g Y p) (low_side g Z p)
-has_low_corner boxes g base p q is lies =
-    record {
-      on_x = subst (λ (lines : List ℕ). IsIntervalOf lines (low_side g X p) q.i) (base_lines_of base boxes is X) (lies X);
-      on_y = subst (λ (lines : List ℕ). IsIntervalOf lines (low_side g Y p) q.j) (base_lines_of base boxes is Y) (lies Y);
-      on_z = subst (λ (lines : List ℕ). IsIntervalOf lines (low_side g Z p) q.k) (base_lines_of base boxes is Z) (lies Z);
-    }
+has_low_corner boxes g p q lies = record { on_x = lies X; on_y = lies Y; on_z = lies Z }
 
-pub lies_in_base : (boxes : List SpaceBox) (g base : Axes) (p q : Place) → base ≡ base_axes boxes →
-    ((a : AxisName) → IsIntervalOf (lines_of base a) (low_side g a p) (index_along a q)) → IsBaseCell boxes q
-lies_in_base boxes g base p q is lies =
-    base_cell_of_cube boxes q (low_side g X p) (low_side g Y p) (low_side g Z p) (has_low_corner boxes g base p q is lies)
+pub lies_along : (boxes : List SpaceBox) (g base : Axes) (p q : Place) → base ≡ base_axes boxes →
+    ((a : AxisName) → IsIntervalOf (lines_of base a) (low_side g a p) (index_along a q)) → LiesInBaseCell boxes g p q
+lies_along boxes g base p q is lies a = subst (λ (lines : List ℕ). IsIntervalOf lines (low_side g a p) (index_along a q)) (base_lines_of base boxes is a) (lies a)
 
--- what fills the box that the table has at the base cell fills the cell
-pub record IsOccupant (d : Detail) (g : Axes) (p : Place) (table : List ℕ) (occupants : List Occupant) (number : ℕ) : Type 0 where
+pub lies_in_base : (boxes : List SpaceBox) (g : Axes) (p q : Place) → LiesInBaseCell boxes g p q → IsBaseCell boxes q
+lies_in_base boxes g p q lies = base_cell_of_cube boxes q (low_side g X p) (low_side g Y p) (low_side g Z p) (has_low_corner boxes g p q lies)
+
+-- a base cell has an entry in the table, of a box
+pub record IsEntered (table : List ℕ) (occupants : List Occupant) (number : ℕ) : Type 0 where
   pub in_table : number < length table
   pub within : get_or table number 0 < length occupants
-  pub fills : slice_get occupants (get_or table number 0) ≡ occupant_at d g p
 
-occupant_found : (d : Detail) (g base : Axes) (table : List ℕ) (occupants : List Occupant) (environments : ℕ) → Keeps d base table occupants environments →
-    CarriesBody g d → (p : Place) → IsCell (counts_of g) p → (q : Place) →
-    HasCube d.boxes q (low_side g X p) (low_side g Y p) (low_side g Z p) → IsOccupant d g p table occupants (base_number d.boxes q)
-occupant_found d g base table occupants environments keeps carries p cell q has =
-    let n : ℕ = holder d.boxes table q in
-    let in_base = base_cell_of_cube d.boxes q (low_side g X p) (low_side g Y p) (low_side g Z p) has in
-    let number : base_number d.boxes q < cell_count (base_counts d.boxes) = cell_number_below (base_counts d.boxes) q in_base in
+pub base_entered : (d : Detail) (base : Axes) (table : List ℕ) (occupants : List Occupant) (environments : ℕ) → Keeps d base table occupants environments →
+    (q : Place) → IsBaseCell d.boxes q → (n : Counts) → n ≡ base_counts d.boxes → (number : ℕ) → number ≡ cell_number n q →
+    IsEntered table occupants number
+base_entered d base table occupants environments keeps q in_base n counts number is =
+    let numbered : number ≡ base_number d.boxes q = is ∙ ap (λ (m : Counts). cell_number m q) counts in
+    let below : base_number d.boxes q < cell_count (base_counts d.boxes) = cell_number_below (base_counts d.boxes) q in_base in
     let each_cell : length table ≡ cell_count (base_counts d.boxes) = keeps.holders.each_cell in
     let within : holder d.boxes table q < length d.boxes = keeps.holders.within q in_base in
+    let long : length occupants ≡ length d.boxes = ap length keeps.filled ∙ length-map d.boxes (occupant_of d.materials) in
+    subst (λ (m : ℕ). IsEntered table occupants m) (sym numbered) (record { in_table = omega arith; within = omega arith })
+
+-- what fills the box that the table has at a base cell fills each cell that lies in it
+pub occupant_read : (d : Detail) (base : Axes) (table : List ℕ) (occupants : List Occupant) (environments : ℕ) → Keeps d base table occupants environments →
+    (q : Place) → IsBaseCell d.boxes q → (n : Counts) → n ≡ base_counts d.boxes → (number : ℕ) → number ≡ cell_number n q →
+    (g : Axes) → CarriesBody g d → (p : Place) → IsCell (counts_of g) p → LiesInBaseCell d.boxes g p q →
+    slice_get occupants (get_or table number 0) ≡ occupant_at d g p
+occupant_read d base table occupants environments keeps q in_base m counts number is g carries p cell lies =
+    let n : ℕ = holder d.boxes table q in
+    let numbered : number ≡ base_number d.boxes q = is ∙ ap (λ (m : Counts). cell_number m q) counts in
+    let within : n < length d.boxes = keeps.holders.within q in_base in
     let there = Contains-get_or d.boxes n no_box within in
-    let corner = cube_from_corner d.boxes (get_or d.boxes n no_box) q (low_side g X p) (low_side g Y p) (low_side g Z p) there has
+    let corner = cube_from_corner d.boxes (get_or d.boxes n no_box) q (low_side g X p) (low_side g Y p) (low_side g Z p) there (has_low_corner d.boxes g p q lies)
     (keeps.holders.holds q no_box in_base) in
     let found = found_box d.boxes (lines_of g) (carried_has_lines d g carries) keeps.accepted.apart p cell n no_box within corner in
     let long : length occupants ≡ length d.boxes = ap length keeps.filled ∙ length-map d.boxes (occupant_of d.materials) in
     let o : Occupant = occupant_of d.materials no_box in
     let read : get_or occupants n o ≡ occupant_of d.materials (get_or d.boxes n no_box) =
     ap (λ (all : List Occupant). get_or all n o) keeps.filled ∙ get_or-map (occupant_of d.materials) d.boxes n no_box o within in
-    record {
-      in_table = omega arith;
-      within = omega arith;
-      fills = slice_get-get_or occupants n o (omega arith) ∙ ap Some read ∙
-          sym (ap (λ (box : Option SpaceBox). option_map (filled_with d.materials) (option_map (λ b. b.content) box)) found);
-    }
-
-pub occupant_read : (d : Detail) (g base : Axes) (table : List ℕ) (occupants : List Occupant) (environments : ℕ) → Keeps d base table occupants environments →
-    CarriesBody g d → (p : Place) → IsCell (counts_of g) p → (q : Place) →
-    ((a : AxisName) → IsIntervalOf (lines_of base a) (low_side g a p) (index_along a q)) → (n : Counts) → n ≡ base_counts d.boxes →
-    (number : ℕ) → number ≡ cell_number n q → IsOccupant d g p table occupants number
-occupant_read d g base table occupants environments keeps carries p cell q lies n counts number is =
-    subst (λ (m : ℕ). IsOccupant d g p table occupants m) (sym (is ∙ ap (λ (m : Counts). cell_number m q) counts))
-    (occupant_found d g base table occupants environments keeps carries p cell q (has_low_corner d.boxes g base p q keeps.lines lies))
+    ap (λ (m : ℕ). slice_get occupants (get_or table m 0)) numbered
+    ∙ slice_get-get_or occupants n o (omega arith) ∙ ap Some read
+    ∙ sym (ap (λ (box : Option SpaceBox). option_map (filled_with d.materials) (option_map (λ b. b.content) box)) found)

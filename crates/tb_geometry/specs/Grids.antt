@@ -17,6 +17,7 @@ use Rattle.tb_grid.specs.Grid.{Axes, lines_of}
 use Rattle.tb_model.specs.Mesh.{Mesh, above, below}
 use Rattle.tb_model.specs.Refinement.{Refinement, Refines, mesh, scene_of}
 use Rattle.tb_model.specs.Values.{unscaled}
+use Rattle.tb_geometry.specs.Base.{base_lines}
 use Rattle.tb_geometry.specs.Bodies.{filled_with}
 use Rattle.tb_geometry.specs.Cubes.{ReachesOver}
 use Rattle.tb_geometry.specs.declared.occupant.Occupant.{Occupant}
@@ -53,6 +54,10 @@ mesh_on d g = mesh (scene_of d) (refinement_of g)
 -- the line at the low side of the cell at a place, on an axis
 abbrev pub low_side : Axes → AxisName → Place → ℕ
 low_side g a p = slice_index (lines_of g a) (index_along a p)
+
+-- the cell at a place lies in a base cell: on each axis the line at its low side is in the base cell's interval
+abbrev pub LiesInBaseCell : List SpaceBox → Axes → Place → Place → Type 0
+LiesInBaseCell boxes g p q = (a : AxisName) → IsIntervalOf (base_lines a boxes) (low_side g a p) (index_along a q)
 
 -- what fills the cell at a place, with the conductivity of its material
 abbrev pub occupant_at : Detail → Axes → Place → Option Occupant

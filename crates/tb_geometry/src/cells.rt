@@ -2,13 +2,15 @@
 ghost use Rattle.std.specs.Prelude.{◌≡◌, ◌<◌, Some, length, option_map, slice_get, slice_index};
 ghost use Rattle.tb_grid.specs.Axis.{IsBetweenEnds, IsIntervalOf};
 ghost use Rattle.tb_places.specs.Along.{ahead, index_along};
-ghost use Rattle.tb_grid.specs.Grid.{counts_of, lines_of};
+ghost use Rattle.tb_grid.specs.Grid.{Axes, counts_of, lines_of};
 ghost use Rattle.tb_places.specs.declared.AxisName.{AxisName};
+ghost use Rattle.tb_places.specs.declared.Place.{Place};
 ghost use Rattle.tb_places.specs.Inverse.{cell_place, face_place};
 ghost use Rattle.tb_places.specs.Places.{IsCell, IsFace, cell_count, face_count};
 ghost use Rattle.tb_model.specs.Mesh.{kind_between};
+ghost use Rattle.tb_geometry.specs.Base.{IsBaseCell};
 ghost use Rattle.tb_geometry.specs.Bodies.{filled_with};
-ghost use Rattle.tb_geometry.specs.Grids.{CarriesBody, above_face, below_face, content_of, low_side, mesh_on, occupant_at};
+ghost use Rattle.tb_geometry.specs.Grids.{CarriesBody, LiesInBaseCell, above_face, below_face, content_of, low_side, mesh_on, occupant_at};
 ghost use Rattle.tb_model.specs.Mesh.{kind_at};
 
 use crate::body::Body;
@@ -70,13 +72,18 @@ impl Body {
         requires cell { IsCell (counts_of grid.now) cell }
         ensures { Some result ≡ occupant_at self.now grid.now cell }
     {
-        let place = base_place(&self.base, grid, cell);
-        let base_cell = self.base.counts().cell_number(place);
-        filling(
-            self.holders.as_slice(),
-            self.occupants.as_slice(),
-            base_cell,
-        )
+        self.filling(base_place(&self.base, grid, cell))
+    }
+
+    /// What fills a base cell, and so each cell that lies in it, of any grid that carries the body. It takes no
+    /// memory.
+    pub fn filling(&self, base_cell: Place) -> Occupant
+        requires { IsBaseCell self.now.boxes base_cell }
+        ensures { (g : Axes) (p : Place) → CarriesBody g self.now → IsCell (counts_of g) p
+            → LiesInBaseCell self.now.boxes g p base_cell → Some result ≡ occupant_at self.now g p }
+    {
+        let number = self.base.counts().cell_number(base_cell);
+        filling(self.holders.as_slice(), self.occupants.as_slice(), number)
     }
 }
 
