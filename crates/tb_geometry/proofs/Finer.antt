@@ -42,7 +42,7 @@ carried_has_lines d g carries =
 
 -- ---- the base cell of a cell
 -- a line of the grid but its last lies between the ends of the base lines
-between_base_ends : (d : Detail) (g : Axes) → CarriesBody g d → (a : AxisName) (i : ℕ) → i < interval_count (lines_of g a) →
+pub between_base_ends : (d : Detail) (g : Axes) → CarriesBody g d → (a : AxisName) (i : ℕ) → i < interval_count (lines_of g a) →
     IsBetweenEnds (base_lines a d.boxes) (get_or (lines_of g a) i 0)
 between_base_ends d g carries a i within =
     let spans = spans_along d g carries a in

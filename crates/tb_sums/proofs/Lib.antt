@@ -1,0 +1,10 @@
+pub mod Cases
+pub mod Kept
+pub mod Reordering
+pub mod RoundedTerms
+pub mod RoundedUp
+pub mod Runs
+pub mod Grids
+pub mod Filled
+pub mod Meets
+pub mod Sums

@@ -1,0 +1,12 @@
+use Rattle.tb_sums.proofs.Kept.{cell_is, rise_kept}
+use Rattle.tb_sums.proofs.cell.energy_along_x.Goals as goal
+
+pub returns-clause-value : goal.returns-clause-value
+returns-clause-value c =
+    let t = c.args.t in let h = c.requires.temperatures in
+    cell_is c.axis_energy.result c.args.lambda c.args.at.x.width c.args.at.y.width c.args.at.z.width _ _ _ _ _ _ _ _
+    (rise_kept c.rise.result t.t100 t.t000 h.at_100 h.at_000 c.rise.ensures.size c.rise.ensures.value)
+    (rise_kept c.rise-2.result t.t110 t.t010 h.at_110 h.at_010 c.rise-2.ensures.size c.rise-2.ensures.value)
+    (rise_kept c.rise-3.result t.t101 t.t001 h.at_101 h.at_001 c.rise-3.ensures.size c.rise-3.ensures.value)
+    (rise_kept c.rise-4.result t.t111 t.t011 h.at_111 h.at_011 c.rise-4.ensures.size c.rise-4.ensures.value)
+    c.axis_energy.ensures.value

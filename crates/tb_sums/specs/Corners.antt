@@ -1,0 +1,48 @@
+-- The terms of a cell as the numbers that they are made of.
+use Rattle.std.specs.Prelude.{ℕ, ◌^◌, [], ◌∷◌, ℤ, pos, ◌+ℤ◌, ◌-ℤ◌, ◌≤ℤ◌}
+use Rattle.tb_math.specs.Ceiling.{ceiling}
+use Rattle.tb_terms.specs.declared.field.FieldCell.{FieldCell}
+use Rattle.tb_terms.specs.declared.field.FieldFace.{FieldFace}
+use Rattle.tb_terms.specs.Terms.{field_cell_term}
+use Rattle.tb_sums.specs.declared.cell.Corners.{Corners}
+
+-- a temperature in 10⁻⁸ of the difference
+pub record IsLevel (z : ℤ) : Type 0 where
+  pub least : pos 0 ≤ℤ z
+  pub most : z ≤ℤ pos (10 ^ 8)
+
+pub record AreTemperatures (t : Corners) : Type 0 where
+  pub at_000 : IsLevel t.t000
+  pub at_100 : IsLevel t.t100
+  pub at_010 : IsLevel t.t010
+  pub at_110 : IsLevel t.t110
+  pub at_001 : IsLevel t.t001
+  pub at_101 : IsLevel t.t101
+  pub at_011 : IsLevel t.t011
+  pub at_111 : IsLevel t.t111
+
+-- the term of a cell, or of a face, of these numbers
+abbrev pub cell_at : (lambda a b c : ℕ) (d00 d10 d01 d11 : ℤ) → FieldCell
+cell_at lambda a b c d00 d10 d01 d11 = record { lambda = lambda; a = a; b = b; c = c; d = d00 ∷ d10 ∷ d01 ∷ d11 ∷ [] }
+
+abbrev pub face_at : (rs b c : ℕ) (d00 d10 d01 d11 : ℤ) → FieldFace
+face_at rs b c d00 d10 d01 d11 = record { rs = rs; b = b; c = c; t = d00 ∷ d10 ∷ d01 ∷ d11 ∷ [] }
+
+-- the terms of a cell with these corners
+abbrev pub along_x : (lambda x y z : ℕ) → Corners → FieldCell
+along_x lambda x y z t = cell_at lambda x y z (t.t100 -ℤ t.t000) (t.t110 -ℤ t.t010) (t.t101 -ℤ t.t001) (t.t111 -ℤ t.t011)
+
+abbrev pub along_y : (lambda x y z : ℕ) → Corners → FieldCell
+along_y lambda x y z t = cell_at lambda y x z (t.t010 -ℤ t.t000) (t.t110 -ℤ t.t100) (t.t011 -ℤ t.t001) (t.t111 -ℤ t.t101)
+
+abbrev pub along_z : (lambda x y z : ℕ) → Corners → FieldCell
+along_z lambda x y z t = cell_at lambda z x y (t.t001 -ℤ t.t000) (t.t101 -ℤ t.t100) (t.t011 -ℤ t.t010) (t.t111 -ℤ t.t110)
+
+-- the term of a face whose corners have these temperatures, at air of this level
+abbrev pub face_across : (rs b c : ℕ) (level t00 t10 t01 t11 : ℤ) → FieldFace
+face_across rs b c level t00 t10 t01 t11 = face_at rs b c (t00 -ℤ level) (t10 -ℤ level) (t01 -ℤ level) (t11 -ℤ level)
+
+-- what a solid cell adds inside, its three terms each rounded up
+abbrev pub solid_up : (lambda x y z : ℕ) → Corners → ℤ
+solid_up lambda x y z t =
+    ceiling (field_cell_term (along_x lambda x y z t)) +ℤ ceiling (field_cell_term (along_y lambda x y z t)) +ℤ ceiling (field_cell_term (along_z lambda x y z t))

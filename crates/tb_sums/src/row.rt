@@ -1,0 +1,108 @@
+// A row of cells along x, with the temperatures around it.
+ghost use Rattle.std.specs.Prelude.{◌≡◌, ◌+◌, ◌-◌, ◌*◌, ◌^◌, ◌<◌, ◌≤◌, ◌==◌, length, pos};
+ghost use Rattle.tb_sums.specs.Corners.{AreTemperatures};
+ghost use Rattle.tb_sums.specs.NodeRows.{AreWarm, AreWidths, corners_at};
+
+use crate::cell::{Corners, Cuboid, solid_energy};
+use crate::interval::Interval;
+use crate::run::Run;
+use crate::sides::{sides_x, sides_y, sides_z};
+
+/// The node values of a row of cells: along its four lines of nodes, the low y first, then the low z.
+#[derive(Clone, Copy)]
+pub struct NodeRows<'a> {
+    pub t00: &'a [i64],
+    pub t10: &'a [i64],
+    pub t01: &'a [i64],
+    pub t11: &'a [i64],
+}
+
+/// A row of cells: the lines across x, its intervals along y and z, and the temperatures at its nodes. In the mask bit e
+/// is set where environment e is in the case.
+#[derive(Clone, Copy)]
+pub struct Row<'a> {
+    pub lines: &'a [u32],
+    pub y: Interval,
+    pub z: Interval,
+    pub nodes: NodeRows<'a>,
+    pub mask: u8,
+    pub ghost widths: { AreWidths lines.now },
+    pub ghost t00: { length nodes.t00.now ≡ length lines.now },
+    pub ghost t10: { length nodes.t10.now ≡ length lines.now },
+    pub ghost t01: { length nodes.t01.now ≡ length lines.now },
+    pub ghost t11: { length nodes.t11.now ≡ length lines.now },
+    pub ghost warm_00: { AreWarm nodes.t00.now },
+    pub ghost warm_10: { AreWarm nodes.t10.now },
+    pub ghost warm_01: { AreWarm nodes.t01.now },
+    pub ghost warm_11: { AreWarm nodes.t11.now },
+    pub ghost few: { length lines.now ≤ 1024 },
+}
+
+impl Row<'_> {
+    ghost use Rattle.std.specs.Prelude.{slice_index};
+    ghost use Rattle.tb_sums.specs.RunSums.{run_up, solid_at};
+
+    #[inline]
+    fn width(&self, i: usize) -> u32
+        requires { i + 1 < length self.now.lines.now }
+        ensures { result ≡ slice_index self.now.lines.now (i + 1) - slice_index self.now.lines.now i }
+    {
+        self.lines[i + 1] - self.lines[i]
+    }
+
+    #[inline]
+    fn corners(&self, i: usize) -> Corners
+        requires { i + 1 < length self.now.lines.now }
+        ensures exact { result ≡ corners_at self.now.nodes i }
+        ensures temperatures { AreTemperatures result }
+    {
+        let n = self.nodes;
+        Corners {
+            t000: n.t00[i],
+            t100: n.t00[i + 1],
+            t010: n.t10[i],
+            t110: n.t10[i + 1],
+            t001: n.t01[i],
+            t101: n.t01[i + 1],
+            t011: n.t11[i],
+            t111: n.t11[i + 1],
+        }
+    }
+
+    // The energy of a cell of a run, with its surfaces.
+    #[inline]
+    fn solid(&self, run: &Run, i: u32, x: Interval) -> u128
+        requires within { i + 1 < length self.now.lines.now }
+        requires width { x.width ≡ slice_index self.now.lines.now (i + 1) - slice_index self.now.lines.now i }
+        ensures value { pos result ≡ solid_at self.now run.now i }
+        ensures most { result ≤ 10 ^ 26 }
+    {
+        let t = self.corners(i as usize);
+        let at = Cuboid {
+            x,
+            y: self.y,
+            z: self.z,
+        };
+        let x = sides_x(self.mask, run.low_at(i), run.high_at(i), at, t);
+        let y = sides_y(self.mask, run.low_y, run.high_y, at, t);
+        let z = sides_z(self.mask, run.low_z, run.high_z, at, t);
+        solid_energy(run.lambda, at, t) + (x + (y + z))
+    }
+
+    /// The energy of a run of solid cells, with their surfaces.
+    pub fn run(&self, run: &Run) -> u128
+        requires from { run.now.from ≤ run.now.to }
+        requires to { run.now.to < length self.now.lines.now }
+        ensures value { pos result ≡ run_up self.now run.now (run.now.to - run.now.from) }
+        ensures most { result ≤ (run.now.to - run.now.from) * 10 ^ 26 }
+    {
+        let mut total = 0u128;
+        let mut x = self.y;
+        for n in 0..run.to - run.from {
+            let i = run.from + n;
+            x = x.or_new(self.width(i as usize));
+            total += self.solid(run, i, x);
+        }
+        total
+    }
+}
