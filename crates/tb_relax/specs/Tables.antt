@@ -10,7 +10,7 @@ use Rattle.tb_grid.specs.Views.{along_axes}
 use Rattle.tb_relax.specs.declared.table.CellWeights.{CellWeights}
 use Rattle.tb_relax.specs.declared.table.FaceWeight.{FaceWeight}
 use Rattle.tb_relax.specs.declared.table.Table.{Table}
-use Rattle.tb_weighted.specs.Flows.{flows_of, FlowForms, flow_cell, flow_cell_slope, flow_face_slope, flow_face_rate}
+use Rattle.tb_weighted.specs.Flows.{over_flows, flows_of, FlowForms, flow_cell, flow_cell_slope, flow_face_slope, flow_face_rate}
 use Rattle.tb_weighted.specs.Sequences.{AreMade}
 use Rattle.tb_weighted.specs.Forms.{IsFormMove, values_of, Forms, Spread3, only_at, cell_part, cell_slope, face_rate, face_slope}
 
@@ -89,6 +89,9 @@ face_flux_at t a i j k = slice_index (map (λ w. w.flux) t.face_rows.now) (slice
 abbrev pub face_source_at : Table → AxisName → ℕ → ℕ → ℕ → ℤ
 face_source_at t a i j k = slice_index_or (map source_of t.face_rows.now) (slice_index t.faces.now (face_number (table_counts t) a (place_along a i j k))) (pos 0)
 
+abbrev pub face_counts_at : Table → AxisName → ℕ → ℕ → ℕ → Bool
+face_counts_at t a i j k = slice_index_or (map (λ w. w.counts) t.face_rows.now) (slice_index t.faces.now (face_number (table_counts t) a (place_along a i j k))) false
+
 unfoldable pub flux_forms : Table → FlowForms
 flux_forms t = record {
   cells = table_counts t;
@@ -111,3 +114,10 @@ flow_slope_of_cells t flows a p q r = flow_cell_slope ((flux_forms t).cell a) (f
 
 abbrev pub flow_slope_of_faces : Table → List ℤ → AxisName → ℕ → ℕ → ℕ → Spread3
 flow_slope_of_faces t flows a p q r = flow_face_slope ((flux_forms t).face a) ((flux_forms t).source a) (flow_on (table_counts t) flows a) (only_at p q r)
+
+-- the parabola of the flow through a face: its rate and its slope
+abbrev pub rate_through : Table → AxisName → ℕ → ℕ → ℕ → ℤ
+rate_through t a p q r = over_flows (flux_forms t) a (flow_rate_of_cells t a p q r) (flow_rate_of_faces t a p q r)
+
+abbrev pub slope_through : Table → List ℤ → AxisName → ℕ → ℕ → ℕ → ℤ
+slope_through t flows a p q r = over_flows (flux_forms t) a (flow_slope_of_cells t flows a p q r) (flow_slope_of_faces t flows a p q r)

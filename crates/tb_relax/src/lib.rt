@@ -6,10 +6,16 @@
 #![tactic(auto)]
 
 mod flow;
+mod loops;
 mod node;
+mod part;
 mod pull;
+mod reverse;
+mod site;
 mod sound;
 mod table;
 
+pub use part::Part;
 pub use pull::{Pull, Side};
+pub use site::Site;
 pub use table::{CellWeights, FaceWeight, Table};

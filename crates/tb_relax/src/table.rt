@@ -74,7 +74,7 @@ impl CellWeights {
 impl Table<'_> {
     ghost use Rattle.tb_grid.specs.Views.{along_axes};
     ghost use Rattle.tb_weighted.specs.Limits.{IsField, IsFlux};
-    ghost use Rattle.tb_relax.specs.Tables.{IsTable, cell_flux_at, cell_weight_at, face_flux_at, face_inside_at, face_source_at, face_weight_at, flow_on, source_of, table_counts, value_on};
+    ghost use Rattle.tb_relax.specs.Tables.{IsTable, cell_flux_at, cell_weight_at, face_counts_at, face_flux_at, face_inside_at, face_source_at, face_weight_at, flow_on, source_of, table_counts, value_on};
 
     /// The number of the node at the line `i` of an axis and the lines `j` and `k` of the others.
     #[inline(always)]
@@ -127,6 +127,7 @@ impl Table<'_> {
         ensures inside { result.inside ≡ face_inside_at self.now axis i j k }
         ensures flux { result.flux ≡ face_flux_at self.now axis i j k }
         ensures source { source_of result ≡ face_source_at self.now axis i j k }
+        ensures counts { result.counts ≡ face_counts_at self.now axis i j k }
     {
         let face = self.counts.face_number(axis, Place::on_line(axis, i, j, k));
         self.face_rows[self.faces[face.0 as usize] as usize]
