@@ -87,6 +87,7 @@ distance_of : (m : Mesh) (flags : List Bool) (marks : List Mark) (order : List C
 distance_of m flags marks order mark done c found solid way =
     let end = cell_place m.cells way.end in
     record {
+      solid = solid;
       cell = end;
       side = way.root.side;
       root = root_of m flags marks order mark done c found solid way;

@@ -50,6 +50,7 @@ one_first m p s t first second =
 -- nothing leads nearer from the root's cell
 at_root : (m : Mesh) (p : Place) (s : Side) → IsRoot m p p s → IsDistance m p 1
 at_root m p s root = record {
+  solid = root.solid;
   cell = p;
   side = s;
   root = root;

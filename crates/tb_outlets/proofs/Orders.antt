@@ -1,6 +1,6 @@
 -- The cells found, last first, are an order in which they can be balanced.
 use Rattle.std.proofs.Common.{◌≡◌, ◌≢◌, inl, inr, ℕ, zero, suc, ◌-◌, ◌<◌, List, [], ◌∷◌, length, reverse, get_or, Bool, arith, refl, sym, ap, subst, ◌∙◌}
-use Rattle.std.proofs.lemmas.List.{get_or-reverse, length-reverse, get_or_read}
+use Rattle.std.proofs.lemmas.List.{get_or-reverse, get_or_default, length-reverse, get_or_read}
 use Rattle.tb_places.specs.declared.Place.{Place}
 use Rattle.tb_places.specs.Inverse.{cell_place}
 use Rattle.tb_places.specs.Places.{Counts, cell_count, face_count}
@@ -109,11 +109,6 @@ serves m flags marks order outlet mark reach done outlets =
 same_cell : (c d : CellId) → c.0 ≡ d.0 → c ≡ d
 same_cell c d e = ap (λ (m : ℕ). let x : CellId = record { 0 = m } in x) e
 
-pub any_default : (xs : List CellId) (k : ℕ) (d e : CellId) → k < length xs → get_or xs k d ≡ get_or xs k e
-any_default [] k d e below = absurd (omega arith)
-any_default (x ∷ xs) zero d e below = refl
-any_default (x ∷ xs) (suc k) d e below = any_default xs k d e (omega arith)
-
 pub lists_solids : (m : Mesh) (flags : List Bool) (marks : List Mark) (order : List CellId) → MarkSolids m.cells m flags → NoneIsolated m →
     IsDone m.cells flags (face_count m.cells) marks order → ListsSolids m (reverse order)
 lists_solids m flags marks order mark reach done = record {
@@ -137,6 +132,6 @@ lists_solids m flags marks order mark reach done = record {
         k,
         omega arith,
         get_or-reverse order k c below ∙ ap (λ (i : ℕ). get_or order i c) back
-            ∙ any_default order at.0 c (record { 0 = 0 }) first ∙ same_cell (get_or order at.0 (record { 0 = 0 })) c at.2,
+            ∙ get_or_default order at.0 c (record { 0 = 0 }) first ∙ same_cell (get_or order at.0 (record { 0 = 0 })) c at.2,
       );
 }

@@ -29,8 +29,9 @@ pub record IsRoot (m : Mesh) (p cell : Place) (side : Side) : Type 0 where
   pub least : (q : Place) (s : Side) → IsSolidCell m q → AreLinked m p q → IsSurface (kind_on m s q) →
       number_on m.cells side cell ≤ number_on m.cells s q
 
--- one more than the least number of faces on a way to the root's cell
+-- The distance of a solid cell is one more than the least number of faces on a way to the root's cell.
 pub record IsDistance (m : Mesh) (p : Place) (distance : ℕ) : Type 0 where
+  pub solid : IsSolidCell m p
   pub cell : Place
   pub side : Side
   pub root : IsRoot m p cell side

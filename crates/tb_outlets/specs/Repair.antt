@@ -2,13 +2,15 @@
 use Rattle.std.specs.Prelude.{neg_ℤ, ◌≡◌, ◌≢◌, ◌↔◌, ℕ, ◌<◌, Bool, true, false, if◌then◌else◌, List, length, slice_index_or, Contains, IsTrue, ℤ, pos}
 use Rattle.tb_places.specs.declared.Place.{Place}
 use Rattle.tb_places.specs.Inverse.{face_place}
-use Rattle.tb_places.specs.Places.{face_count}
+use Rattle.tb_places.specs.Places.{IsFace, face_count, face_number}
+use Rattle.tb_places.specs.declared.AxisName.{AxisName}
+use Rattle.tb_math.specs.Rational.{ℚ, int}
 use Rattle.tb_grid.specs.declared.ids.CellId.{CellId}
 use Rattle.tb_model.specs.declared.FaceKind.{FaceKind}
 use Rattle.tb_model.specs.declared.FaceKind.TheVariants.{Inner, Surface}
 use Rattle.tb_model.specs.Mesh.{Mesh}
 use Rattle.tb_model.specs.Values.{flux_of}
-use Rattle.tb_model.specs.Energy.{IsBalanced}
+use Rattle.tb_model.specs.Energy.{Flux, IsBalanced}
 use Rattle.tb_walk.specs.Isolated.{IsSolidCell}
 use Rattle.tb_model.specs.Mesh.{kind_at}
 use Rattle.tb_outlets.specs.declared.side.Side.{Side}
@@ -42,6 +44,17 @@ pub record IsRepaired (m : Mesh) (given values : List ℤ) : Type 0 where
   pub balanced : IsBalanced m (flux_of m.cells values)
   pub agrees : (f : ℕ) → f < face_count m.cells → carries (kind_of m f) ≡ true → ¬ IsOutletFace m f → flow values f ≡ flow given f
   pub rest : (f : ℕ) → f < face_count m.cells → carries (kind_of m f) ≡ false → flow values f ≡ pos 0
+
+-- the value of a flux at the face across an axis at a place
+abbrev pub flow_at : Flux → AxisName → Place → ℚ
+flow_at q a p = q a p.i p.j p.k
+
+-- The same, of fluxes of any rational values.
+pub record IsRepairedFlux (m : Mesh) (given q : Flux) : Type 0 where
+  pub balanced : IsBalanced m q
+  pub agrees : (a : AxisName) (p : Place) → IsFace m.cells a p → carries (kind_at m a p) ≡ true →
+      ¬ IsOutletFace m (face_number m.cells a p) → flow_at q a p ≡ flow_at given a p
+  pub rest : (a : AxisName) (p : Place) → IsFace m.cells a p → carries (kind_at m a p) ≡ false → flow_at q a p ≡ int (pos 0)
 
 -- what a repair starts from: 0 on Shut and Idle faces
 pub record IsCleared (m : Mesh) (given values : List ℤ) : Type 0 where

@@ -1,11 +1,11 @@
 // Cell after cell, the outlet is set so that nothing is lost in the cell.
-ghost use Rattle.std.specs.Prelude.{◌≡◌, ◌*◌, ◌≤◌, ◌<◌, ◌^◌, length, IsTrue, EachIndex, ◌↔◌, unsigned_abs, true, false, ◌-ℤ◌, slice_index_or, pos};
+ghost use Rattle.std.specs.Prelude.{◌≡◌, ◌*◌, ◌≤◌, ◌<◌, length, IsTrue, EachIndex, ◌↔◌, unsigned_abs, true, false, ◌-ℤ◌, slice_index_or, pos};
 ghost use Rattle.tb_places.specs.Inverse.{cell_place};
 ghost use Rattle.tb_places.specs.Places.{cell_count, face_count, IsCell};
 ghost use Rattle.tb_grid.specs.Views.{along_axes};
 ghost use Rattle.tb_outlets.specs.Flows.{net};
 ghost use Rattle.tb_outlets.specs.Sides.{face_of, number_on};
-ghost use Rattle.tb_outlets.specs.Balancing.{AreCells, IsOrder, IsWithinLimits, balance, balance_all, balancing, flow, side_at};
+ghost use Rattle.tb_outlets.specs.Balancing.{AreCells, IsOrder, IsWithinLimits, balance, balance_all, balancing, flow, most_flow, side_at};
 ghost use Rattle.tb_outlets.specs.Repair.{cleared};
 ghost use Rattle.tb_outlets.specs.declared.side.Side.TheVariants.{Low, High};
 
@@ -13,8 +13,11 @@ use crate::side::Side;
 use tb_grid::{CellCounts, CellId, FaceId, Place};
 use tb_places::AxisName;
 
+/// The most that may flow through a face, in nW per unit difference: 1 kW.
+pub const MOST_FLOW: u64 = 1_000_000_000_000;
+
 /// The face on a side of the cell at a place.
-fn face_on(counts: CellCounts, cell: Place, side: Side) -> FaceId
+pub(crate) fn face_on(counts: CellCounts, cell: Place, side: Side) -> FaceId
     requires { IsCell (along_axes counts) cell }
     ensures face { result.0 ≡ number_on (along_axes counts) side cell }
     ensures within { result.0 < face_count (along_axes counts) }
@@ -30,7 +33,7 @@ fn value_at(values: &[i64], face: FaceId) -> i64
     requires within { face.0 < length values.now }
     requires limits { IsWithinLimits values.now }
     ensures value { result ≡ flow values.now face.0 }
-    ensures most { unsigned_abs result ≤ 10 ^ 12 }
+    ensures most { unsigned_abs result ≤ most_flow }
 {
     values[face.0 as usize]
 }
@@ -41,7 +44,7 @@ fn net_along(counts: CellCounts, cell: Place, axis: AxisName, values: &[i64]) ->
     requires whole { length values.now ≡ face_count (along_axes counts) }
     requires limits { IsWithinLimits values.now }
     ensures value { result ≡ flow values.now (number_on (along_axes counts) (High axis) cell) -ℤ flow values.now (number_on (along_axes counts) (Low axis) cell) }
-    ensures most { unsigned_abs result ≤ 2 * 10 ^ 12 }
+    ensures most { unsigned_abs result ≤ 2 * most_flow }
 {
     let high = face_on(counts, cell, Side::High(axis));
     let low = face_on(counts, cell, Side::Low(axis));
@@ -54,7 +57,7 @@ fn net(counts: CellCounts, cell: CellId, values: &[i64]) -> i64
     requires whole { length values.now ≡ face_count (along_axes counts) }
     requires limits { IsWithinLimits values.now }
     ensures value { result ≡ net (face_of (along_axes counts)) (flow values.now) cell.0 }
-    ensures most { unsigned_abs result ≤ 6 * 10 ^ 12 }
+    ensures most { unsigned_abs result ≤ 6 * most_flow }
 {
     let place = counts.cell_place(cell);
     net_along(counts, place, AxisName::X, values)
@@ -68,7 +71,7 @@ fn balancing(counts: CellCounts, cell: CellId, side: Side, values: &[i64]) -> i6
     requires whole { length values.now ≡ face_count (along_axes counts) }
     requires limits { IsWithinLimits values.now }
     ensures value { result ≡ balancing (face_of (along_axes counts)) (flow values.now) cell.0 side }
-    ensures most { unsigned_abs result ≤ 7 * 10 ^ 12 }
+    ensures most { unsigned_abs result ≤ 7 * most_flow }
 {
     let net = net(counts, cell, values);
     let place = counts.cell_place(cell);
@@ -86,13 +89,13 @@ fn balance(counts: CellCounts, outlets: &[Side], cell: CellId, values: &mut [i64
     requires outlets { length outlets.now ≡ cell_count (along_axes counts) }
     requires whole { length values.old ≡ face_count (along_axes counts) }
     requires limits { IsWithinLimits values.old }
-    ensures within { IsTrue result ↔ (unsigned_abs (balancing (face_of (along_axes counts)) (flow values.old) cell.0 (side_at outlets.now cell.0)) ≤ 10 ^ 12) }
+    ensures within { IsTrue result ↔ (unsigned_abs (balancing (face_of (along_axes counts)) (flow values.old) cell.0 (side_at outlets.now cell.0)) ≤ most_flow) }
     ensures set { IsTrue result → values.new ≡ balance (face_of (along_axes counts)) (side_at outlets.now) values.old cell.0 }
     ensures limits { IsWithinLimits values.new }
 {
     let side = outlets[cell.0 as usize];
     let value = balancing(counts, cell, side, values);
-    if value.unsigned_abs() > 1_000_000_000_000 {
+    if value.unsigned_abs() > MOST_FLOW {
         return false;
     }
     let face = face_on(counts, counts.cell_place(cell), side);

@@ -4,16 +4,19 @@
 ghost use Rattle.std.specs.Prelude.{◌≡◌, ◌≢◌, ◌⊎◌, ℕ, ◌<◌, List, Contains, length, reverse, Bool, ℤ, pos};
 ghost use Rattle.tb_places.specs.declared.Place.{Place};
 ghost use Rattle.tb_places.specs.Inverse.{cell_place};
-ghost use Rattle.tb_places.specs.Places.{face_count};
+ghost use Rattle.tb_places.specs.declared.AxisName.{AxisName};
+ghost use Rattle.tb_places.specs.Places.{IsFace, face_count};
 ghost use Rattle.tb_grid.specs.declared.ids.CellId.{CellId};
+ghost use Rattle.tb_model.specs.Energy.{Flux};
 ghost use Rattle.tb_model.specs.Mesh.{Mesh};
+ghost use Rattle.tb_model.specs.Values.{flux_of};
 ghost use Rattle.tb_walk.specs.Isolated.{IsSolidCell, IsSurface, MarkSolids, NoneIsolated};
 ghost use Rattle.tb_outlets.specs.declared.marks.Mark.{Mark};
 ghost use Rattle.tb_outlets.specs.declared.side.Side.{Side};
 ghost use Rattle.tb_outlets.specs.Balancing.{IsOrder, balance_all, flow};
 ghost use Rattle.tb_outlets.specs.Cycles.{IsOutward, out};
 ghost use Rattle.tb_outlets.specs.Outlets.{AreDistances, AreOutlets, IsDistance, IsOutletOf, IsSolidAt};
-ghost use Rattle.tb_outlets.specs.Repair.{IsCleared, IsCycle, IsRepaired, ListsSolids};
+ghost use Rattle.tb_outlets.specs.Repair.{IsCleared, IsCycle, IsRepaired, IsRepairedFlux, ListsSolids, flow_at};
 ghost use Rattle.tb_outlets.specs.Searching.{IsSearch, distance_at};
 ghost use Rattle.tb_outlets.specs.Sides.{face_of, kind_on};
 
@@ -30,6 +33,15 @@ pub fn repair_is_one()
     ensures made { (m : Mesh) (given start : List ℤ) (outlet : ℕ → Side) (order : List CellId) → AreOutlets m outlet → ListsSolids m order
         → IsOrder (face_of m.cells) outlet order → IsCleared m given start
         → IsRepaired m given (balance_all (face_of m.cells) outlet start order) }
+{}
+
+/// Among all fluxes of rational values there is one repaired flux at the most, and the repair of whole values is it.
+pub fn repaired_flux_is_one()
+    ensures one { (m : Mesh) (given q r : Flux) (outlet : ℕ → Side) (distance : ℕ → ℕ) → AreOutlets m outlet
+        → AreDistances m distance → IsRepairedFlux m given q → IsRepairedFlux m given r
+        → (a : AxisName) (p : Place) → IsFace m.cells a p → flow_at q a p ≡ flow_at r a p }
+    ensures whole { (m : Mesh) (given values : List ℤ) → IsRepaired m given values
+        → IsRepairedFlux m (flux_of m.cells given) (flux_of m.cells values) }
 {}
 
 /// The cycle of a Surface face that isn't a root: it is one, there is a way of outlets, and along it the cycle carries 1

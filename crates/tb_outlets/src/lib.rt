@@ -14,7 +14,8 @@ mod surfaces;
 mod tests;
 mod tree;
 
+pub use balancing::MOST_FLOW;
 pub use marks::Mark;
 pub use repairing::repair;
 pub use side::Side;
-pub use tree::{Tree, plant};
+pub use tree::{Tree, plant, repair_along};

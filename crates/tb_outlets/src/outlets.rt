@@ -14,16 +14,23 @@ use tb_grid::{CellCounts, CellId, FaceId};
 use tb_places::AxisName;
 use tb_walk::PlacedCell;
 
+/// Whether a cell is found nearer than another.
+fn is_nearer(marks: &[Mark], next: CellId, cell: CellId) -> bool
+    requires next { next.0 < length marks.now }
+    requires cell { cell.0 < length marks.now }
+    ensures { IsTrue result ↔ ((0 < distance_at marks.now next.0) × (distance_at marks.now next.0 < distance_at marks.now cell.0)) }
+{
+    let found = marks[next.0 as usize].distance;
+    0 < found && found < marks[cell.0 as usize].distance
+}
+
 /// Whether the low side of a cell along an axis leads to a cell that is found nearer.
 fn low_leads_nearer(cell: PlacedCell, axis: AxisName, marks: &[Mark]) -> bool
     requires marks { length marks.now ≡ cell_count (along_axes cell.counts) }
     ensures { IsTrue result ↔ LeadsNearerAt (along_axes cell.counts) marks.now cell.cell.0 (Low axis) }
 {
     match cell.before(axis) {
-        Some(next) => {
-            let found = marks[next.0 as usize].distance;
-            0 < found && found < marks[cell.cell.0 as usize].distance
-        }
+        Some(next) => is_nearer(marks, next, cell.cell),
         None => false,
     }
 }
@@ -34,10 +41,7 @@ fn high_leads_nearer(cell: PlacedCell, axis: AxisName, marks: &[Mark]) -> bool
     ensures { IsTrue result ↔ LeadsNearerAt (along_axes cell.counts) marks.now cell.cell.0 (High axis) }
 {
     match cell.after(axis) {
-        Some(next) => {
-            let found = marks[next.0 as usize].distance;
-            0 < found && found < marks[cell.cell.0 as usize].distance
-        }
+        Some(next) => is_nearer(marks, next, cell.cell),
         None => false,
     }
 }
