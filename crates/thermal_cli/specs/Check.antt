@@ -6,13 +6,13 @@ use Rattle.tb_terms.specs.declared.Interval.{Interval}
 use Rattle.tb_model.specs.Energy.{IsBalanced}
 use Rattle.tb_model.specs.Faults.{IsFirstUnbalanced}
 use Rattle.tb_model.specs.Refinement.{scene_of}
-use Rattle.tb_model.specs.Soundness.{IsSoundOn}
+use Rattle.tb_model.specs.Soundness.{IsSound}
 use Rattle.thermal_cli.specs.declared.check.CheckAnswer.{CheckAnswer}
 use Rattle.thermal_cli.specs.declared.check.CheckAnswer.TheVariants.{NotFormat, Unbalanced, IntervalDiffers, Accepted}
 use Rattle.thermal_cli.specs.declared.status.Status.{Status}
 use Rattle.thermal_cli.specs.declared.status.Status.TheVariants.{CertificateRefused, Fine}
 use Rattle.thermal_cli.specs.declared.wall.Wall.{Wall}
-use Rattle.thermal_cli.specs.Wall.{case_inside, detail_of, flux_in, grid_of, lower_end_of, mesh_of, upper_end_of, wall_spelt}
+use Rattle.thermal_cli.specs.Wall.{case_inside, detail_of, flux_in, lower_end_of, mesh_of, upper_end_of, wall_spelt}
 
 -- ---- the answer
 
@@ -23,10 +23,10 @@ claimed_by w = record { lo = w.lo; hi = w.hi }
 abbrev pub found_for : Wall → Interval
 found_for w = record { lo = lower_end_of w; hi = upper_end_of w }
 
--- Sound on its own grid: every temperature field there has energy at least the lower end, and every balanced flux a
--- bound at most the upper end.
+-- Sound: on every refinement of the wall, whatever its lines and its scale, every temperature field has energy at least
+-- the lower end, and every balanced flux a bound at most the upper end. The bundle's own grid is one of these.
 abbrev pub IsCertified : Wall → Interval → Type 0
-IsCertified w i = IsSoundOn (scene_of (detail_of w)) (grid_of w) case_inside i.lo i.hi
+IsCertified w i = IsSound (scene_of (detail_of w)) case_inside i.lo i.hi
 
 -- this is answered to the ends that are claimed and those that were found
 abbrev pub AnswersToEnds : (claimed found : Interval) → CheckAnswer → Type 0
@@ -35,7 +35,7 @@ AnswersToEnds claimed found (Accepted interval) = (interval ≡ claimed) × (int
 AnswersToEnds claimed found _ = ⊥
 
 -- this is answered to a wall's bundle: the first cell that is out of balance, else the ends where they aren't those of
--- the field and the flux, else the interval, which is then sound on the grid
+-- the field and the flux, else the interval, which is then sound on every refinement
 abbrev pub AnswersToWall : Wall → CheckAnswer → Type 0
 AnswersToWall w NotFormat = ⊥
 AnswersToWall w (Unbalanced cell sum) = IsFirstUnbalanced (mesh_of w) (flux_in w) cell sum

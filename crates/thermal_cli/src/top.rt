@@ -86,7 +86,7 @@ pub fn run<S: Source, K: Sink>(
     ensures fine { result ≡ Status.Fine → IsAnswered (map string_bytes words.now) (S.left source.old) (S.left source.new)
         (K.holds sink.old) (K.holds sink.new) Status.Fine }
 
-    // A bundle that `check` accepts is a wall's, and the interval that is written is sound on its grid.
+    // A bundle that `check` accepts is a wall's, and the interval that is written is sound on every refinement of the wall.
     ensures certified { result ≡ Status.Fine → command_of (map string_bytes words.now) ≡ Some Command.Check
         → TellsAccepted (S.left source.old) (S.left source.new) (K.holds sink.old) (K.holds sink.new) }
     ensures certificate_refused { result ≡ Status.CertificateRefused
