@@ -1,4 +1,5 @@
 pub mod AllCases
 pub mod DetailPart
+pub mod GoodBundle
 pub mod Judging
 pub mod Wholes

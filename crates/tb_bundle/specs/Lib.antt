@@ -1,3 +1,4 @@
 pub mod Bodies
 pub mod Bundles
 pub mod Details
+pub mod Limits

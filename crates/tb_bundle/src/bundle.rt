@@ -2,11 +2,13 @@
 ghost use Rattle.std.specs.Prelude.{◌≡◌, ◌∷◌, ◌<◌, ◌≤◌, [], IfOk, MatchResult, None, length};
 ghost use Rattle.csv.specs.Records.{fields_of};
 ghost use Rattle.tb_detail.specs.Limits.{InLimits};
+ghost use Rattle.tb_outside.specs.Limits.{most_input_bytes};
 ghost use Rattle.tb_records.specs.Records.{records_of};
 ghost use Rattle.tb_case_records.specs.Ahead.{IsOnePast};
 ghost use Rattle.tb_case_records.specs.Table.{Refuses};
 ghost use Rattle.tb_bundle.specs.Bodies.{IsBody, body_fault};
 ghost use Rattle.tb_bundle.specs.Bundles.{Reads, bundle_reading, head_fault, reading_ahead};
+ghost use Rattle.tb_bundle.specs.Limits.{BundleInLimits};
 
 use crate::body::{Body, read_body};
 use crate::detail::read_detail_part;
@@ -15,8 +17,8 @@ use tb_case_records::{BundleFault, BundleRefusal, CaseProof, RecordReader, is_ex
 use tb_detail::{Detail, Items, SpaceBox};
 use tb_geometry::base_lines;
 use tb_places::AxisName;
-use tb_records::NoMemory;
 use tb_reading::read_details_are_in_limits;
+use tb_records::NoMemory;
 
 /// A detail, and what is claimed and proved of each of its cases, in order.
 #[derive(Debug, Drop, PartialEq)]
@@ -81,7 +83,7 @@ fn read_proofs(
 // The bundle of the records ahead.
 fn read_ahead(reader: &mut RecordReader, alloc: Global) -> Result<Bundle, BundleRefusal>
     ensures bundle { Reads result (reading_ahead reader.old) }
-    ensures limits { IfOk result (λ bundle. InLimits bundle.detail) }
+    ensures within { IfOk result BundleInLimits }
 {
     read_details_are_in_limits();
     if let Err(refusal) = take_head(reader) {
@@ -103,14 +105,14 @@ fn read_ahead(reader: &mut RecordReader, alloc: Global) -> Result<Bundle, Bundle
     }
 }
 
-/// The bundle of a text of at most 268,435,456 bytes. It knows nothing of the faults of a detail as a body, and
-/// judges no case.
+/// The bundle of a text of at most 256 MiB. It is within the limits of the format; the faults of its detail as a body
+/// aren't looked for, and no case is judged.
 ///
 /// `Fault` with the first fault of its records.
 pub fn read_bundle(alloc: Global, bytes: &[u8]) -> Result<Bundle, BundleRefusal>
-    requires { length bytes.now ≤ 268435456 }
+    requires { length bytes.now ≤ most_input_bytes }
     ensures bundle { Reads result (bundle_reading (records_of bytes.now)) }
-    ensures limits { IfOk result (λ bundle. InLimits bundle.detail) }
+    ensures within { IfOk result BundleInLimits }
 {
     let Ok(mut reader) = RecordReader::new(alloc, bytes) else {
         return Err(BundleRefusal::NoMemory);

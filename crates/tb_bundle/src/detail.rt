@@ -11,10 +11,10 @@ ghost use Rattle.tb_bundle.specs.Details.{FeedsOne, IsDetail, IsFed, IsFedDetail
 use std::alloc::Global;
 use tb_case_records::{BundleFault, BundleRefusal, RecordReader, field};
 use tb_detail::Detail;
-use tb_records::{ByteRecord, NoMemory};
 use tb_reading::{
     DetailBuilder, DetailFault, DetailKind, DetailRefusal, number_of_no_record, refusals_stay,
 };
+use tb_records::{ByteRecord, NoMemory};
 
 // Whether a record is the first of the body.
 fn begins_body(row: &ByteRecord) -> bool

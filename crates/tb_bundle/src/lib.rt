@@ -9,6 +9,9 @@
 //! detail, else that of the cases in order and of the end, else that of a record behind the end. Two details have no
 //! right record behind them: one without a box, at its first `x` record, and one with fewer than two environments.
 //!
+//! A bundle that was read is within the limits of the format (`specs/Limits.antt`): so many values as its grids have
+//! nodes and faces, each in its range, on grids that carry the base lines.
+//!
 //! `specs/Bundles.antt` has the reading of a list of records, `specs/Details.antt` that of its detail,
 //! `specs/Bodies.antt` that of the records behind it.
 #![tactic(auto)]

@@ -1,6 +1,9 @@
 pub mod AxisLines
+pub mod Carried
 pub mod CaseSteps
 pub mod Fitting
+pub mod GoodCase
+pub mod GoodRows
 pub mod Rising
 pub mod RowFields
 pub mod Taking

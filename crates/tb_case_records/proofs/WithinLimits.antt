@@ -2,12 +2,13 @@
 use Rattle.std.proofs.Common.{◌≡◌, ◌∙◌, ap, refl, sym, subst, ℕ, suc, ◌+◌, ◌-◌, ◌*◌, ◌<◌, ◌≤◌, Bool, true, false, not, ◌&&◌, ◌||◌, List, [], ◌∷◌, ◌++◌, length, drop, length-drop, Option, Some, None, arith, option_map, if◌then◌else◌, nat_le, nat_lt, slice_index}
 use Rattle.std.proofs.lemmas.Bool.{leb-true, ltb-false}
 use Rattle.std.specs.List.{find}
+use Rattle.std.specs.List.Sorted.{IsStrictlyIncreasing}
 use Rattle.std.specs.Option.{option_or}
 use Rattle.std.specs.Str.{bytes_eq}
 use Rattle.tb_places.specs.declared.AxisName.{AxisName}
 use Rattle.tb_places.specs.declared.AxisName.TheVariants.{X, Y, Z}
-use Rattle.tb_grid.specs.Axis.{IsAxis, interval_count}
-use Rattle.tb_grid.specs.Grid.{Axes, IsGrid, lines_of}
+use Rattle.tb_grid.specs.Axis.{IsAxis, interval_count, most_lines}
+use Rattle.tb_grid.specs.Grid.{Axes, IsGrid, lines_of, most_cells}
 use Rattle.tb_reading.specs.Reading.{Numbered}
 use Rattle.tb_reading.specs.Records.{Row, first_some, text_at}
 use Rattle.tb_case_records.specs.declared.fault.BundleFault.{BundleFault}
@@ -16,8 +17,10 @@ use Rattle.tb_case_records.specs.declared.fault.RecordFault.{RecordFault}
 use Rattle.tb_case_records.specs.declared.fault.RecordFault.TheVariants as fault
 use Rattle.tb_case_records.specs.Faults.{placed}
 use Rattle.tb_case_records.specs.Cases.{AreAxes, CaseForm, axes_in, cells_in, head_table, lines_in, row_at}
+use Rattle.tb_case_records.specs.Limits.{IsOnBase}
 use Rattle.tb_case_records.specs.Rows.{numbers, shape_if}
 use Rattle.tb_case_records.specs.Table.{Axis, Exactly, Expected, axis_fault, fault_of, faults, first_fault, is_none_of, is_too_large, last_of, letter, line_faults, line_of_fault, line_reading}
+use Rattle.tb_case_records.proofs.Carried.{carried}
 use Rattle.tb_case_records.proofs.CaseSteps.{row_at_drop}
 use Rattle.tb_case_records.proofs.Rising.{AreRisen, impossible, increasing, none_both, risen}
 
@@ -52,10 +55,15 @@ few_enough true b h = impossible fault.GridTooLarge h
 few_enough false true h = impossible fault.GridTooLarge h
 few_enough false false h = (refl, refl)
 
+none_found : (case : ℕ) (axis : AxisName) (o : Option ℕ) → option_map (λ line. fault.LineMissing case axis line) o ≡ None → o ≡ None
+none_found case axis None h = refl
+none_found case axis (Some line) h = impossible (fault.LineMissing case axis line) h
+
 -- what an axis record without a fault says
-pub record IsGoodAxis (cells : ℕ) (lines : List ℕ) : Type 0 where
+pub record IsGoodAxis (bases : List ℕ) (cells : ℕ) (lines : List ℕ) : Type 0 where
   pub axis : IsAxis lines
-  pub few : cells * (length lines - 1) ≤ 262144
+  pub base : IsOnBase bases lines
+  pub few : cells * (length lines - 1) ≤ most_cells
 
 module _ (case : ℕ) (axis : AxisName) (bases : List ℕ) (cells : ℕ) (row : Row) (h : axis_fault case axis bases cells row ≡ None) where
   abbrev shape : Bool
@@ -70,26 +78,30 @@ module _ (case : ℕ) (axis : AxisName) (bases : List ℕ) (cells : ℕ) (row : 
   abbrev missing_fault : Option RecordFault
   missing_fault = option_map (λ line. fault.LineMissing case axis line) (find (is_none_of (numbers line_reading (drop 1 row))) bases)
 
-  pub good_axis : IsGoodAxis cells (numbers line_reading (drop 1 row))
+  pub good_axis : IsGoodAxis bases cells (numbers line_reading (drop 1 row))
   good_axis =
       let first : (shape_if (not shape) ≡ None) × (option_or lines_fault (option_or large_fault missing_fault) ≡ None) =
       none_both (shape_if (not shape)) (option_or lines_fault (option_or large_fault missing_fault)) h in
       let second : (lines_fault ≡ None) × (option_or large_fault missing_fault ≡ None) = none_both lines_fault (option_or large_fault missing_fault) first.1 in
       let third : (large_fault ≡ None) × (missing_fault ≡ None) = none_both large_fault missing_fault second.1 in
       let good : AreRisen None (drop 1 row) = risen (slice_index bases 0) (last_of bases) None 2 (drop 1 row) second.0 in
-      let three : 3 ≤ length row =
-      leb-true 3 (length row) (both_true (nat_le 3 (length row)) (nat_le 1 (length bases)) (both_true (bytes_eq (text_at row 0) (letter axis)) (nat_le 3 (length row) && nat_le 1 (length bases)) (right_shape shape first.0)).1).0 in
-      let few : (nat_lt 1024 (length row - 1) ≡ false) × (nat_lt 262144 (cells * (length row - 1 - 1)) ≡ false) =
-      few_enough (nat_lt 1024 (length row - 1)) (nat_lt 262144 (cells * (length row - 1 - 1))) third.0 in
+      let sizes : (nat_le 3 (length row) ≡ true) × (nat_le 1 (length bases) ≡ true) =
+      both_true (nat_le 3 (length row)) (nat_le 1 (length bases)) (both_true (bytes_eq (text_at row 0) (letter axis)) (nat_le 3 (length row) && nat_le 1 (length bases)) (right_shape shape first.0)).1 in
+      let three : 3 ≤ length row = leb-true 3 (length row) sizes.0 in
+      let some : 1 ≤ length bases = leb-true 1 (length bases) sizes.1 in
+      let rising : IsStrictlyIncreasing (numbers line_reading (drop 1 row)) = increasing None (numbers line_reading (drop 1 row)) good.rise in
+      let few : (nat_lt most_lines (length row - 1) ≡ false) × (nat_lt most_cells (cells * (length row - 1 - 1)) ≡ false) =
+      few_enough (nat_lt most_lines (length row - 1)) (nat_lt most_cells (cells * (length row - 1 - 1))) third.0 in
       let many : length (numbers line_reading (drop 1 row)) ≡ length row - 1 = good.each ∙ length-drop 1 row in
-      let most : length row - 1 ≤ 1024 = ltb-false 1024 (length row - 1) few.0 in
+      let most : length row - 1 ≤ most_lines = ltb-false most_lines (length row - 1) few.0 in
       record {
         axis = record {
           least = omega (arith, many, three);
           most = omega (arith, many, most);
-          rising = increasing None (numbers line_reading (drop 1 row)) good.rise;
+          rising = rising;
         };
-        few = subst (λ (n : ℕ). cells * (n - 1) ≤ 262144) (sym many) (ltb-false 262144 (cells * (length row - 1 - 1)) few.1);
+        base = record { some = some; carries = carried bases 2 (drop 1 row) some rising second.0 (none_found case axis _ third.1) };
+        few = subst (λ (n : ℕ). cells * (n - 1) ≤ most_cells) (sym many) (ltb-false most_cells (cells * (length row - 1 - 1)) few.1);
       }
 
 -- ---- the records of a grid
@@ -116,16 +128,16 @@ module _ (f : CaseForm) (given : List Numbered) (h : first_fault (head_table f g
   after_z : IsFirstGood (Axis f.number Z f.z (cells_in given 1 * cells_in given 2)) [] (drop 1 (drop 1 (drop 1 given)))
   after_z = first_good (Axis f.number Z f.z (cells_in given 1 * cells_in given 2)) [] (drop 1 (drop 1 (drop 1 given))) after_y.rest
 
-  good_x : IsGoodAxis 0 (lines_in given 1)
-  good_x = subst (λ (row : Row). IsGoodAxis 0 (numbers line_reading (drop 1 row))) (row_at_drop 1 0 given)
+  pub good_x : IsGoodAxis f.x 0 (lines_in given 1)
+  good_x = subst (λ (row : Row). IsGoodAxis f.x 0 (numbers line_reading (drop 1 row))) (row_at_drop 1 0 given)
       (good_axis f.number X f.x 0 (row_at (drop 1 given) 0) after_x.here)
 
-  good_y : IsGoodAxis 0 (lines_in given 2)
-  good_y = subst (λ (row : Row). IsGoodAxis 0 (numbers line_reading (drop 1 row))) (row_at_drop 1 0 (drop 1 given) ∙ row_at_drop 1 1 given)
+  pub good_y : IsGoodAxis f.y 0 (lines_in given 2)
+  good_y = subst (λ (row : Row). IsGoodAxis f.y 0 (numbers line_reading (drop 1 row))) (row_at_drop 1 0 (drop 1 given) ∙ row_at_drop 1 1 given)
       (good_axis f.number Y f.y 0 (row_at (drop 1 (drop 1 given)) 0) after_y.here)
 
-  good_z : IsGoodAxis (cells_in given 1 * cells_in given 2) (lines_in given 3)
-  good_z = subst (λ (row : Row). IsGoodAxis (cells_in given 1 * cells_in given 2) (numbers line_reading (drop 1 row)))
+  pub good_z : IsGoodAxis f.z (cells_in given 1 * cells_in given 2) (lines_in given 3)
+  good_z = subst (λ (row : Row). IsGoodAxis f.z (cells_in given 1 * cells_in given 2) (numbers line_reading (drop 1 row)))
       (row_at_drop 1 0 (drop 1 (drop 1 given)) ∙ row_at_drop 1 1 (drop 1 given) ∙ row_at_drop 1 2 given)
       (good_axis f.number Z f.z (cells_in given 1 * cells_in given 2) (row_at (drop 1 (drop 1 (drop 1 given))) 0) after_z.here)
 

@@ -1,5 +1,6 @@
 pub mod Ahead
 pub mod Cases
 pub mod Faults
+pub mod Limits
 pub mod Rows
 pub mod Table

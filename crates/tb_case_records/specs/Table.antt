@@ -7,7 +7,8 @@ use Rattle.std.specs.Str.{bytes_eq}
 use Rattle.tb_places.specs.declared.AxisName.{AxisName}
 use Rattle.tb_places.specs.declared.AxisName.TheVariants.{X, Y, Z}
 use Rattle.tb_detail.specs.Names.{Text}
-use Rattle.tb_grid.specs.Axis.{interval_count}
+use Rattle.tb_grid.specs.Axis.{most_lines}
+use Rattle.tb_grid.specs.Grid.{most_cells}
 use Rattle.tb_numbers.specs.Reading.{decimal_reading, in_range, whole_reading}
 use Rattle.tb_numbers.specs.declared.parse.NumberFault.{NumberFault}
 use Rattle.tb_reading.specs.Reading.{Numbered}
@@ -75,7 +76,7 @@ is_none_of lines x = not (list_any (λ line. line == x) lines)
 
 -- more than 1,024 lines, or more than 262,144 cells
 abbrev pub is_too_large : ℕ → ℕ → Bool
-is_too_large lines cells = nat_lt 1024 lines || nat_lt 262144 (cells * (lines - 1))
+is_too_large lines cells = nat_lt most_lines lines || nat_lt most_cells (cells * (lines - 1))
 
 abbrev pub last_of : List ℕ → ℕ
 last_of bases = slice_index bases (length bases - 1)

@@ -3,6 +3,7 @@ ghost use Rattle.std.specs.Prelude.{◌≡◌, ◌==◌, ◌&&◌, ◌||◌, ◌
 ghost use Rattle.std.specs.List.{find, list_any};
 ghost use Rattle.std.specs.Str.{bytes_eq};
 ghost use Rattle.csv.specs.Records.{fields_of};
+ghost use Rattle.tb_grid.specs.Axis.{most_lines};
 ghost use Rattle.tb_reading.specs.Records.{first_some, text_at};
 ghost use Rattle.tb_case_records.specs.Cases.{lines_in};
 ghost use Rattle.tb_case_records.specs.Rows.{TellsFault, numbers};
@@ -12,6 +13,7 @@ use crate::fault::{BundleFault, BundleRefusal, RecordFault};
 use crate::reader::RecordReader;
 use crate::rows::{RowStop, field};
 use std::alloc::Global;
+use tb_grid::{MOST_CELLS, MOST_LINES};
 use tb_numbers::{NumberFault, parse_decimal};
 use tb_places::AxisName;
 use tb_records::{ByteRecord, NoMemory};
@@ -26,7 +28,8 @@ pub struct AxisForm<'a> {
     pub cells: u64,
 }
 
-fn letter(axis: AxisName) -> &'static [u8]
+/// The word of the record of an axis.
+pub fn letter(axis: AxisName) -> &'static [u8]
     ensures { result.now ≡ letter axis }
 {
     match axis {
@@ -135,9 +138,9 @@ fn missing(lines: &[u32], bases: &[u32]) -> Option<u32>
 fn is_too_large(lines: usize, cells: u64) -> bool
     requires { cells ≤ 2 ^ 32 }
     ensures test { result ≡ is_too_large lines cells }
-    ensures few { result ≡ false → lines ≤ 1024 }
+    ensures few { result ≡ false → lines ≤ most_lines }
 {
-    lines > 1024 || (lines > 0 && cells * (lines as u64 - 1) > 262_144)
+    lines > MOST_LINES || (lines > 0 && cells * (lines as u64 - 1) > MOST_CELLS)
 }
 
 // Whether a record is that of an axis, with two lines or more, in a body.
@@ -153,7 +156,7 @@ fn read_axis(alloc: Global, row: &ByteRecord, form: AxisForm) -> Result<Vec<u32>
     requires { form.cells ≤ 2 ^ 32 }
     ensures fault { TellsFault result (axis_fault form.entry.case form.entry.axis form.entry.bases.now form.entry.cells (fields_of row.now)) }
     ensures read { IfOk result (λ lines. lines.items ≡ numbers line_reading (drop 1 (fields_of row.now))) }
-    ensures count { IfOk result (λ lines. (2 ≤ length lines.items) × (length lines.items ≤ 1024)) }
+    ensures count { IfOk result (λ lines. (2 ≤ length lines.items) × (length lines.items ≤ most_lines)) }
 {
     if !is_shaped(row, form) {
         return Err(RowStop::Fault(RecordFault::Shape));
@@ -182,7 +185,7 @@ pub fn take_axis(
     requires { form.cells ≤ 2 ^ 32 }
     ensures taken { Taken (Axis form.entry.case form.entry.axis form.entry.bases.now form.entry.cells ∷ []) reader.old reader.new result }
     ensures read { IfOk result (λ axis. axis.items ≡ lines_in reader.old.ahead 0) }
-    ensures count { IfOk result (λ axis. (2 ≤ length axis.items) × (length axis.items ≤ 1024)) }
+    ensures count { IfOk result (λ axis. (2 ≤ length axis.items) × (length axis.items ≤ most_lines)) }
 {
     let Some((number, row)) = reader.current() else {
         return Err(BundleRefusal::Fault(BundleFault::NoEnd));

@@ -1,6 +1,6 @@
 // The records of a case.
 ghost use Rattle.std.specs.Prelude.{◌≡◌, ◌++◌, ◌∷◌, ◌*◌, ◌+◌, [], ◌≤◌, ◌<◌, ◌^◌, IfOk, length};
-ghost use Rattle.tb_grid.specs.Axis.{IsAxis, interval_count};
+ghost use Rattle.tb_grid.specs.Axis.{IsAxis, interval_count, most_lines};
 ghost use Rattle.tb_grid.specs.Grid.{IsGrid};
 ghost use Rattle.tb_case_records.specs.Cases.{AreAxes, AreValues, ReadsCase, axes_in, form_of, head_table};
 ghost use Rattle.tb_case_records.specs.Table.{Taken, face_rows, node_rows};
@@ -134,12 +134,12 @@ fn take_grid(
     }
 }
 
-// How many cells there are along each axis.
-fn counts_of(grid: &Grid) -> CellCounts
+/// How many cells there are along each axis: fewer than lines, of which there are 1,024 at most.
+pub fn counts_of(grid: &Grid) -> CellCounts
     ensures x { result.x ≡ interval_count grid.now.x }
     ensures y { result.y ≡ interval_count grid.now.y }
     ensures z { result.z ≡ interval_count grid.now.z }
-    ensures few { (result.x ≤ 1023) × ((result.y ≤ 1023) × (result.z ≤ 1023)) }
+    ensures few { (result.x < most_lines) × ((result.y < most_lines) × (result.z < most_lines)) }
 {
     grid.counts()
 }
@@ -157,7 +157,7 @@ fn take_values(
     alloc: Global,
     counts: CellCounts,
 ) -> Result<CaseValues, BundleRefusal>
-    requires few { (counts.x ≤ 1023) × ((counts.y ≤ 1023) × (counts.z ≤ 1023)) }
+    requires few { (counts.x < most_lines) × ((counts.y < most_lines) × (counts.z < most_lines)) }
     ensures taken { Taken (node_rows counts.x counts.y counts.z ++ face_rows counts.x counts.y counts.z) reader.old reader.new result }
     ensures read { IfOk result (λ values. AreValues counts.x counts.y counts.z values.field.items values.flux.items reader.old.ahead) }
 {

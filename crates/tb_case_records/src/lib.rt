@@ -15,7 +15,8 @@
 //! | `verdict,WORD,W` | 1 | `done`, `grid` or `sweeps`; the width in µW/K |
 //!
 //! `specs/Table.antt` has the faults of each kind of record, and the first fault of records that are awaited;
-//! `specs/Cases.antt` the awaited records of a case, made from the axes among them, and what they say.
+//! `specs/Cases.antt` the awaited records of a case, made from the axes among them, and what they say;
+//! `specs/Limits.antt` the limits that a case whose records have no fault is within.
 #![tactic(auto)]
 
 mod axis;
@@ -27,9 +28,10 @@ mod rows;
 mod values;
 mod words;
 
-pub use case::{CaseProof, CaseShape, read_case};
+pub use axis::letter;
+pub use case::{CaseProof, CaseShape, counts_of, read_case};
 pub use ends::Verdict;
 pub use fault::{BundleFault, BundleRefusal, RecordFault, RecordPlace};
 pub use reader::RecordReader;
-pub use rows::field;
+pub use rows::{RowKind, field, word_of};
 pub use words::{is_exactly, take_words};

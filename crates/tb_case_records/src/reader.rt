@@ -1,6 +1,7 @@
 // The records of a text without its remarks, one ahead.
 ghost use Rattle.std.specs.Prelude.{◌≡◌, ◌+◌, ◌≤◌, [], ◌∷◌, MatchOption, OnErr, OnOk, IfOk, IfSome, false, drop, length};
 ghost use Rattle.csv.specs.Records.{fields_of};
+ghost use Rattle.tb_outside.specs.Limits.{most_input_bytes};
 ghost use Rattle.tb_records.specs.Records.{is_remark, records_of};
 ghost use Rattle.tb_case_records.specs.Ahead.{IsAt, IsNextRecord, IsOnePast, all_ahead};
 
@@ -15,7 +16,7 @@ fn next_record(
     row: &mut ByteRecord,
     number: u32,
 ) -> Result<(bool, u32), NoMemory>
-    requires { number + length left.old ≤ 268435456 }
+    requires { number + length left.old ≤ most_input_bytes }
     ensures found { IfOk result (λ next. IsNextRecord number left.old next.0 next.1 (fields_of row.new) left.new) }
     ensures failed { OnErr result (left.new ≡ []) }
 {
@@ -44,6 +45,7 @@ pub struct RecordReader<'a> {
 impl<'a> Model for RecordReader<'a> {
     ghost use Rattle.std.specs.Prelude.{◌≡◌, ◌+◌, ◌≤◌, [], true, false, length};
     ghost use Rattle.csv.specs.Records.{fields_of};
+    ghost use Rattle.tb_outside.specs.Limits.{most_input_bytes};
     ghost use Rattle.tb_records.specs.Records.{is_remark};
     ghost use Rattle.tb_case_records.specs.Ahead.{Ahead, ahead_from};
 
@@ -54,13 +56,13 @@ impl<'a> Model for RecordReader<'a> {
       total = l.number + length l.left;
     } };
 
-    ghost invariant = { λ l. (l.number + length l.left ≤ 268435456) × ((l.is_at ≡ false → l.left ≡ []) × (l.is_at ≡ true → is_remark (fields_of l.row) ≡ false)) };
+    ghost invariant = { λ l. (l.number + length l.left ≤ most_input_bytes) × ((l.is_at ≡ false → l.left ≡ []) × (l.is_at ≡ true → is_remark (fields_of l.row) ≡ false)) };
 }
 
 impl<'a> RecordReader<'a> {
     /// A reader that stands at the first record.
     pub fn new(alloc: Global, bytes: &'a [u8]) -> Result<RecordReader<'a>, NoMemory>
-        requires { length bytes.now ≤ 268435456 }
+        requires { length bytes.now ≤ most_input_bytes }
         ensures { IfOk result (λ reader. reader ≡ all_ahead (records_of bytes.entry.now)) }
     {
         records_are_few();
@@ -90,7 +92,7 @@ impl<'a> RecordReader<'a> {
     pub fn total(&self) -> u32
         requires { self.now.ahead ≡ [] }
         ensures total { result ≡ self.now.total }
-        ensures few { result ≤ 268435456 }
+        ensures few { result ≤ most_input_bytes }
     {
         self.number
     }

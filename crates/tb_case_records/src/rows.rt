@@ -33,8 +33,8 @@ pub enum RowStop {
     NoMemory,
 }
 
-// The word of a row.
-fn word_of(kind: RowKind) -> &'static [u8]
+/// The word of a row.
+pub fn word_of(kind: RowKind) -> &'static [u8]
     ensures { result.now ≡ word_of kind }
 {
     match kind {
@@ -72,7 +72,7 @@ fn read_value(kind: RowKind, text: &[u8]) -> Result<i64, NumberFault>
     }
 }
 
-// The bytes of a field, none where there is no such field.
+/// The bytes of a field, none where there is no such field.
 pub fn field(row: &ByteRecord, at: usize) -> &[u8]
     ensures { result.now ≡ text_at (fields_of row.entry.now) at }
 {

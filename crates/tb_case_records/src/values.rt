@@ -1,5 +1,6 @@
 // The values of a field and of a flux.
 ghost use Rattle.std.specs.Prelude.{◌≡◌, ◌+◌, ◌*◌, ◌++◌, ◌≤◌, ◌<◌, ◌^◌, OnOk, length};
+ghost use Rattle.tb_grid.specs.Axis.{most_lines};
 ghost use Rattle.tb_case_records.specs.Ahead.{row_numbers};
 ghost use Rattle.tb_case_records.specs.Rows.{face_reading, node_reading};
 ghost use Rattle.tb_case_records.specs.Table.{Taken, face_rows, layer_rows, node_rows};
@@ -17,7 +18,7 @@ pub fn take_nodes(
     z: u32,
     values: &mut Vec<i64>,
 ) -> Result<(), BundleRefusal>
-    requires few { (x ≤ 1023) × (y ≤ 1023) × (z ≤ 1023) }
+    requires few { (x < most_lines) × (y < most_lines) × (z < most_lines) }
     ensures taken { Taken (node_rows x y z) reader.old reader.new result }
     ensures read { OnOk result (values.new.items ≡ values.old.items ++ row_numbers node_reading (length (node_rows x y z)) reader.old.ahead) }
 {
@@ -31,7 +32,7 @@ fn take_layer(
     y: u32,
     values: &mut Vec<i64>,
 ) -> Result<(), BundleRefusal>
-    requires few { (x ≤ 1023) × (y ≤ 1023) }
+    requires few { (x < most_lines) × (y < most_lines) }
     ensures taken { Taken (layer_rows x y) reader.old reader.new result }
     ensures read { OnOk result (values.new.items ≡ values.old.items ++ row_numbers face_reading (length (layer_rows x y)) reader.old.ahead) }
 {
@@ -52,7 +53,7 @@ pub fn take_faces(
     z: u32,
     values: &mut Vec<i64>,
 ) -> Result<(), BundleRefusal>
-    requires few { (x ≤ 1023) × (y ≤ 1023) }
+    requires few { (x < most_lines) × (y < most_lines) }
     ensures taken { Taken (face_rows x y z) reader.old reader.new result }
     ensures read { OnOk result (values.new.items ≡ values.old.items ++ row_numbers face_reading (length (face_rows x y z)) reader.old.ahead) }
 {
