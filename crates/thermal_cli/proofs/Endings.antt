@@ -1,5 +1,6 @@
 -- With which status the answers of each command end a run.
 use Rattle.std.proofs.Common.{◌≡◌, ◌⊎◌, List, ℕ, inl, inr, refl, sym, subst}
+use Rattle.tb_options.specs.declared.SolveOptions.{SolveOptions}
 use Rattle.thermal_cli.specs.declared.answer.Answer.{Answer}
 use Rattle.thermal_cli.specs.declared.check.CheckAnswer.{CheckAnswer}
 use Rattle.thermal_cli.specs.declared.check.CheckAnswer.TheVariants as check
@@ -25,16 +26,16 @@ check_ends (check.Unbalanced cell sum) = inr (inr (inr (refl, refl)))
 check_ends (check.IntervalDiffers claimed found) = inr (inr (inr (refl, refl)))
 check_ends (check.Accepted interval) = inl refl
 
-solve_ends : (a : SolveAnswer) → IsEndingOf Solve (solve_status a)
-solve_ends a = inr (inl refl)
+solve_ends : (o : SolveOptions) (a : SolveAnswer) → IsEndingOf (Solve o) (solve_status a)
+solve_ends o a = inr (inl refl)
 
 uvalue_ends : (a : UValueAnswer) → IsEndingOf UValue (uvalue_status a)
 uvalue_ends (uvalue.FaultOfDetail f) = inr (inl refl)
-uvalue_ends uvalue.NotBuilt = inr (inl refl)
-uvalue_ends uvalue.NoParts = inl refl
+uvalue_ends (uvalue.FaultOfPart f) = inr (inl refl)
+uvalue_ends (uvalue.Values v) = inl refl
 
 -- a line for each command
 pub answers_end : (c : Command) (bytes : List ℕ) (a : Answer) → Answers c bytes a → IsEndingOf c (answer_message a).status
 answers_end Check bytes a h = subst (λ (b : Answer). IsEndingOf Check (answer_message b).status) (sym h.1) (check_ends h.0)
-answers_end Solve bytes a h = subst (λ (b : Answer). IsEndingOf Solve (answer_message b).status) (sym h.1) (solve_ends h.0)
+answers_end (Solve o) bytes a h = subst (λ (b : Answer). IsEndingOf (Solve o) (answer_message b).status) (sym h.1) (solve_ends o h.0)
 answers_end UValue bytes a h = subst (λ (b : Answer). IsEndingOf UValue (answer_message b).status) (sym h.1) (uvalue_ends h.0)

@@ -14,9 +14,10 @@ use Rattle.thermal_cli.specs.declared.words.Command.{Command}
 use Rattle.thermal_cli.specs.declared.words.Command.TheVariants.{Check}
 use Rattle.thermal_cli.specs.Answers.{Answers, answer_message}
 use Rattle.thermal_cli.specs.Check.{CheckAnswers, check_status, check_text}
-use Rattle.thermal_cli.specs.Outcome.{HasReading, IsAnswered, IsInterrupted, IsRead, Runs, TellsAccepted, TellsOf, WritesFrontOfOne}
-use Rattle.thermal_cli.specs.Words.{command_of}
+use Rattle.thermal_cli.specs.Outcome.{IsAnswered, IsInterrupted, IsRead, Runs, TellsAccepted, TellsOf, WritesFrontOfOne}
+use Rattle.thermal_cli.specs.Words.{HasReading, Names}
 use Rattle.thermal_cli.proofs.Endings.{IsEndingOf, answers_end}
+use Rattle.thermal_cli.proofs.Commands.{one_command}
 
 -- ---- which status belongs to what is told
 
@@ -56,9 +57,6 @@ accepted bytes (check.Unbalanced cell sum) holds_old holds_new h e w = cc e
 accepted bytes (check.IntervalDiffers claimed found) holds_old holds_new h e w = cc e
 accepted bytes (check.Accepted i) holds_old holds_new h e w = (i, h, w)
 
-no_command : (words : List (List ℕ)) → command_of words ≡ None → HasReading words → ⊥
-no_command words e h = let f = h.1 in cc (e, f)
-
 -- ---- what each status says
 
 module _ {S K : Type 0} (left : S → Option (List ℕ)) (source_faults : S → ℕ) (holds : K → Option (List ℕ)) (sink_faults : K → ℕ) (words : List (List ℕ)) (a b : S) (k l : K) where
@@ -66,7 +64,7 @@ module _ {S K : Type 0} (left : S → Option (List ℕ)) (source_faults : S → 
   Ran = Runs left source_faults holds sink_faults words a b k l
 
   -- Usage comes only for words without a reading
-  pub usage_words : (s : Status) → s ≡ status.Usage → Ran s → command_of words ≡ None
+  pub usage_words : (s : Status) → s ≡ status.Usage → Ran s → ¬ HasReading words
   usage_words s p (told.Usage, o, inl t) = o.0
   usage_words s p (told.NoMemory, o, inl t) = let e = t.0 in cc (e, p)
   usage_words s p (told.SourceFault, o, inl t) = let e = t.0 in cc (e, p)
@@ -75,13 +73,13 @@ module _ {S K : Type 0} (left : S → Option (List ℕ)) (source_faults : S → 
   usage_words s p (x, o, inr t) = let e = t.0 in cc (e, p)
 
   -- words without a reading are told so, and the source is untouched
-  pub no_reading : (s : Status) → command_of words ≡ None → Ran s → ((s ≡ status.Usage) ⊎ (s ≡ status.SinkFault)) × (b ≡ a)
+  pub no_reading : (s : Status) → (¬ HasReading words) → Ran s → ((s ≡ status.Usage) ⊎ (s ≡ status.SinkFault)) × (b ≡ a)
   no_reading s h (told.Usage, o, inl t) = (inl t.0, o.1)
   no_reading s h (told.Usage, o, inr t) = (inr t.0, o.1)
-  no_reading s h (told.NoMemory, o, t) = absurd (no_command words h o.0)
-  no_reading s h (told.SourceFault, o, t) = absurd (no_command words h o.0)
-  no_reading s h (told.TooLong, o, t) = absurd (no_command words h o.0)
-  no_reading s h (told.Answered x, o, t) = absurd (no_command words h (o.0, o.1))
+  no_reading s h (told.NoMemory, o, t) = absurd (h o.0)
+  no_reading s h (told.SourceFault, o, t) = absurd (h o.0)
+  no_reading s h (told.TooLong, o, t) = absurd (h o.0)
+  no_reading s h (told.Answered x, o, t) = absurd (h (o.0, o.1))
 
   -- a source's fault has its cause, and its line alone is written
   pub source_fault : (s : Status) → s ≡ status.SourceFault → Ran s → Rose (source_faults a) (source_faults b) × Adds (holds k) (holds l) (codes "refused,SourceFault\n")
@@ -152,16 +150,16 @@ module _ {S K : Type 0} (left : S → Option (List ℕ)) (source_faults : S → 
   pub fine : (s : Status) → s ≡ status.Fine → Ran s → IsAnswered words (left a) (left b) (holds k) (holds l) status.Fine
   fine s p r = subst (IsAnswered words (left a) (left b) (holds k) (holds l)) p (told_answer s (inl p) r)
 
-  pub certificate_refused : (s : Status) → s ≡ status.CertificateRefused → Ran s → (command_of words ≡ Some Check) × IsAnswered words (left a) (left b) (holds k) (holds l) status.CertificateRefused
+  pub certificate_refused : (s : Status) → s ≡ status.CertificateRefused → Ran s → Names words Check × IsAnswered words (left a) (left b) (holds k) (holds l) status.CertificateRefused
   certificate_refused s p r =
       let h = subst (IsAnswered words (left a) (left b) (holds k) (holds l)) p (told_answer s (inr p) r) in
-      (h.1 ∙ ap Some (by_check h.0 _ (answers_end h.0 h.2 h.4.0 h.4.1) (sym h.4.2)), h)
+      (subst (Names words) (by_check h.0 _ (answers_end h.0 h.2 h.4.0 h.4.1) (sym h.4.2)) h.1, h)
 
   -- of a bundle that was accepted, what `check` accepts was written
-  pub certified : (s : Status) → s ≡ status.Fine → command_of words ≡ Some Check → Ran s → TellsAccepted (left a) (left b) (holds k) (holds l)
+  pub certified : (s : Status) → s ≡ status.Fine → Names words Check → Ran s → TellsAccepted (left a) (left b) (holds k) (holds l)
   certified s p w r =
       let h = fine s p r in
-      let c : h.0 ≡ Check = let e = h.1 in cc (e, w) in
+      let c : h.0 ≡ Check = one_command words h.0 Check h.1 w in
       let x : Answers Check h.2 h.4.0 = subst (λ (d : Command). Answers d h.2 h.4.0) c h.4.1 in
       let e : status.Fine ≡ check_status x.0 = h.4.2 ∙ ap (λ (y : Answer). (answer_message y).status) x.1 in
       let t : Adds (holds k) (holds l) (check_text x.0) = subst (λ (y : Answer). Adds (holds k) (holds l) (answer_message y).text) x.1 h.4.3 in
@@ -193,14 +191,14 @@ module _ {S K : Type 0} (left : S → Option (List ℕ)) (source_faults : S → 
   too_short : (given : List ℕ) → IsRead (left a) (left b) given → most_input_bytes < length bytes → ⊥
   too_short given r h = let e = ap length (whole given r) in absurd (omega (arith, e, r.2, h))
 
-  answered_so : (c d : Command) (given : List ℕ) (x : Answer) → command_of words ≡ Some c → command_of words ≡ Some d → IsRead (left a) (left b) given → Answers d given x → Answers c bytes x
+  answered_so : (c d : Command) (given : List ℕ) (x : Answer) → Names words c → Names words d → IsRead (left a) (left b) given → Answers d given x → Answers c bytes x
   answered_so c d given x h i r s =
-      let same : d ≡ c = cc (h, i) in
+      let same : d ≡ c = one_command words d c i h in
       subst (λ (y : List ℕ). Answers c y x) (sym (whole given r)) (subst (λ (y : Command). Answers y given x) same s)
 
   -- an input within the limit gets what the command answers to it, unless the run is interrupted
-  pub answered : (s : Status) (c : Command) → command_of words ≡ Some c → length bytes ≤ most_input_bytes → RanOn s → IsInterrupted s ⊎ TellsOf c bytes (holds k) (holds l) s
-  answered s c h m (told.Usage, o, inl t) = absurd (no_command words o.0 (c, h))
+  pub answered : (s : Status) (c : Command) → Names words c → length bytes ≤ most_input_bytes → RanOn s → IsInterrupted s ⊎ TellsOf c bytes (holds k) (holds l) s
+  answered s c h m (told.Usage, o, inl t) = absurd (o.0 (c, h))
   answered s c h m (told.NoMemory, o, inl t) = inl (inl t.0)
   answered s c h m (told.SourceFault, o, inl t) = inl (inr (inl t.0))
   answered s c h m (told.TooLong, o, inl t) = absurd (too_many o.1 m)
@@ -209,7 +207,7 @@ module _ {S K : Type 0} (left : S → Option (List ℕ)) (source_faults : S → 
 
   -- a longer one is refused, unless the run is interrupted
   pub too_long : (s : Status) → HasReading words → most_input_bytes < length bytes → RanOn s → IsInterrupted s ⊎ ((s ≡ status.Refused) × Adds (holds k) (holds l) (codes "refused,TooLong\n"))
-  too_long s h m (told.Usage, o, inl t) = absurd (no_command words o.0 h)
+  too_long s h m (told.Usage, o, inl t) = absurd (o.0 h)
   too_long s h m (told.NoMemory, o, inl t) = inl (inl t.0)
   too_long s h m (told.SourceFault, o, inl t) = inl (inr (inl t.0))
   too_long s h m (told.TooLong, o, inl t) = inr (t.0, t.1)

@@ -16,7 +16,7 @@ use Rattle.thermal_cli.specs.UValue.{UValueAnswers, uvalue_status, uvalue_text}
 -- a command answers this to these bytes
 abbrev pub Answers : Command → List ℕ → Answer → Type 0
 Answers Check bytes a = (x : CheckAnswer) × (a ≡ answer.Check x) × CheckAnswers bytes x
-Answers Solve bytes a = (x : SolveAnswer) × (a ≡ answer.Solve x) × SolveAnswers bytes x
+Answers (Solve options) bytes a = (x : SolveAnswer) × (a ≡ answer.Solve x) × SolveAnswers options bytes x
 Answers UValue bytes a = (x : UValueAnswer) × (a ≡ answer.UValue x) × UValueAnswers bytes x
 
 abbrev pub answer_message : Answer → Message

@@ -14,7 +14,7 @@ use Rattle.thermal_cli.specs.declared.words.Command.{Command}
 use Rattle.thermal_cli.specs.Answers.{Answers, answer_message}
 use Rattle.thermal_cli.specs.Check.{CheckAnswers, check_text}
 use Rattle.thermal_cli.specs.Messages.{Message, Tells}
-use Rattle.thermal_cli.specs.Words.{command_of}
+use Rattle.thermal_cli.specs.Words.{HasReading, Names}
 
 -- ---- what is told
 
@@ -22,20 +22,16 @@ use Rattle.thermal_cli.specs.Words.{command_of}
 abbrev pub IsRead : (old new : Option (List ℕ)) → List ℕ → Type 0
 IsRead old new bytes = Takes old new bytes × IsAtEnd new × (length bytes ≤ most_input_bytes)
 
--- the words name a command
-abbrev pub HasReading : List (List ℕ) → Type 0
-HasReading words = (c : Command) × (command_of words ≡ Some c)
-
 -- What is told belongs to the words, and to the source before and after, which is told by the bytes that are left and
 -- by its count of faults. Memory may run out at any time; words without a reading leave the source alone; a fault of
 -- the source is told exactly where one was counted.
 abbrev pub IsOutcome : {S : Type 0} → (S → Option (List ℕ)) → (S → ℕ) → (words : List (List ℕ)) (old new : S) → Told → Type 0
-IsOutcome left faults words old new Usage = (command_of words ≡ None) × (new ≡ old)
+IsOutcome left faults words old new Usage = (¬ HasReading words) × (new ≡ old)
 IsOutcome left faults words old new NoMemory = HasReading words × TakesAtMost (left old) (left new) (most_input_bytes + 1) × Stands (faults old) (faults new)
 IsOutcome left faults words old new SourceFault = HasReading words × TakesAtMost (left old) (left new) most_input_bytes × Rose (faults old) (faults new)
 IsOutcome left faults words old new TooLong = HasReading words × TakesExactly (left old) (left new) (most_input_bytes + 1) × Stands (faults old) (faults new)
 IsOutcome left faults words old new (Answered a) =
-    (c : Command) × (command_of words ≡ Some c) × (bytes : List ℕ) × IsRead (left old) (left new) bytes × Answers c bytes a × Stands (faults old) (faults new)
+    (c : Command) × Names words c × (bytes : List ℕ) × IsRead (left old) (left new) bytes × Answers c bytes a × Stands (faults old) (faults new)
 
 -- its text and its status
 abbrev pub told_message : Told → Message
@@ -70,7 +66,7 @@ TellsOf c bytes holds_old holds_new s =
 -- the source was read to its end, and what the command answers to its bytes was written whole
 abbrev pub IsAnswered : (words : List (List ℕ)) (left_old left_new holds_old holds_new : Option (List ℕ)) → Status → Type 0
 IsAnswered words left_old left_new holds_old holds_new s =
-    (c : Command) × (command_of words ≡ Some c) × (bytes : List ℕ) × IsRead left_old left_new bytes × TellsOf c bytes holds_old holds_new s
+    (c : Command) × Names words c × (bytes : List ℕ) × IsRead left_old left_new bytes × TellsOf c bytes holds_old holds_new s
 
 -- the source was read to its end, `check` accepts its bytes, and the interval that it thereby certifies was written
 abbrev pub TellsAccepted : (left_old left_new holds_old holds_new : Option (List ℕ)) → Type 0

@@ -1,17 +1,21 @@
 -- What the words of a run mean.
-use Rattle.std.specs.Prelude.{ℕ, List, [], ◌∷◌, Option, Some, None, codes, if◌then◌else◌}
-use Rattle.std.specs.Str.{bytes_eq}
+use Rattle.std.specs.Prelude.{◌≡◌, ℕ, List, [], ◌∷◌, codes}
+use Rattle.tb_options.specs.Options.{AreWithin, IsReading}
 use Rattle.thermal_cli.specs.declared.words.Command.{Command}
 use Rattle.thermal_cli.specs.declared.words.Command.TheVariants.{Check, Solve, UValue}
 
-abbrev pub command_of_word : List ℕ → Option Command
-command_of_word word =
-    if bytes_eq word (codes "check") then Some Check
-    else (if bytes_eq word (codes "solve") then Some Solve
-    else (if bytes_eq word (codes "uvalue") then Some UValue else None))
+-- the words name this command: its own word alone, or `solve` and words that give its options
+abbrev pub Names : List (List ℕ) → Command → Type 0
+Names words Check = words ≡ codes "check" ∷ []
+Names words (Solve options) = (rest : List (List ℕ)) × (words ≡ codes "solve" ∷ rest) × IsReading rest options
+Names words UValue = words ≡ codes "uvalue" ∷ []
 
--- a command has a reading where it is the only word
-abbrev pub command_of : List (List ℕ) → Option Command
-command_of [] = None
-command_of (word ∷ []) = command_of_word word
-command_of (word ∷ more ∷ rest) = None
+-- the words name a command
+abbrev pub HasReading : List (List ℕ) → Type 0
+HasReading words = (c : Command) × Names words c
+
+-- the options of a command are in their ranges
+abbrev pub HasRanges : Command → Type 0
+HasRanges Check = Unit {0}
+HasRanges (Solve options) = AreWithin options
+HasRanges UValue = Unit {0}

@@ -3,6 +3,7 @@ ghost use Rattle.std.specs.Prelude.{◌≤◌, IfOk, length};
 ghost use Rattle.tb_outside.specs.Limits.{most_input_bytes};
 ghost use Rattle.thermal_cli.specs.Answers.{Answers, answer_message};
 ghost use Rattle.thermal_cli.specs.Messages.{Tells};
+ghost use Rattle.thermal_cli.specs.Words.{HasRanges};
 
 use crate::Status;
 use crate::check::{CheckAnswer, check};
@@ -24,12 +25,13 @@ pub enum Answer {
 
 /// What a command answers to these bytes, of which there are at most 268,435,456.
 pub fn answer_to(alloc: Global, command: Command, bytes: &[u8]) -> Result<Answer, NoMemory>
-    requires { length bytes.now ≤ most_input_bytes }
+    requires input { length bytes.now ≤ most_input_bytes }
+    requires ranges { HasRanges command }
     ensures { IfOk result (Answers command bytes.now) }
 {
     match command {
         Command::Check => Ok(Answer::Check(check(alloc, bytes)?)),
-        Command::Solve => Ok(Answer::Solve(solve(alloc, bytes)?)),
+        Command::Solve(options) => Ok(Answer::Solve(solve(alloc, options, bytes)?)),
         Command::UValue => Ok(Answer::UValue(uvalue(alloc, bytes)?)),
     }
 }

@@ -3,8 +3,8 @@ ghost use Rattle.std.specs.Prelude.{◌≡◌, ◌⊎◌, ◌+◌, ◌<◌, ◌�
 ghost use Rattle.tb_outside.specs.Faults.{Rose, Stands};
 ghost use Rattle.tb_outside.specs.Limits.{most_input_bytes};
 ghost use Rattle.tb_outside.specs.Outside.{Adds, TakesExactly};
-ghost use Rattle.thermal_cli.specs.Outcome.{HasReading, IsAnswered, IsInterrupted, IsOutcome, Runs, TellsAccepted, TellsOf, WritesFrontOfOne};
-ghost use Rattle.thermal_cli.specs.Words.{command_of};
+ghost use Rattle.thermal_cli.specs.Outcome.{IsAnswered, IsInterrupted, IsOutcome, Runs, TellsAccepted, TellsOf, WritesFrontOfOne};
+ghost use Rattle.thermal_cli.specs.Words.{HasReading, Names};
 ghost use Rattle.thermal_cli.specs.declared.words.Command.{Command};
 
 use crate::Status;
@@ -39,9 +39,9 @@ fn work<S: Source>(alloc: Global, words: &[String], source: &mut S) -> Told
 /// Runs the program on these words, which don't begin with the program's name.
 ///
 /// `check` reads a bundle from the source, and writes the interval that it certifies. `solve` reads a detail and tells
-/// its first fault or that of its body; solving comes later, so a body without a fault is refused as not built.
-/// `uvalue` reads a detail; until U-values are calculated, a detail with parts is refused so too. Each is the only word.
-/// Where the input is refused, one line says why (`docs/FORMATS.md`). All memory is taken before the first byte is
+/// its first fault, that of its body, or why its level grid is too large; solving comes later, so any other body is
+/// refused as not built. `uvalue` reads a detail, and writes the U-values of its parts. `check` and `uvalue` are the only
+/// word; behind `solve` stand its options, each a name and a value: `--width`, `--grade`, `--halve`, `--sweeps`. Where the input is refused, one line says why (`docs/FORMATS.md`). All memory is taken before the first byte is
 /// written.
 pub fn run<S: Source, K: Sink>(
     alloc: Global,
@@ -53,8 +53,8 @@ pub fn run<S: Source, K: Sink>(
     ensures outcome { Runs S.left S.faults K.holds K.faults (map string_bytes words.now) source.old source.new sink.old sink.new result }
 
     // Usage comes exactly where the words name no command, and leaves the source untouched.
-    ensures usage { result ≡ Status.Usage → command_of (map string_bytes words.now) ≡ None }
-    ensures no_reading { command_of (map string_bytes words.now) ≡ None
+    ensures usage { result ≡ Status.Usage → ¬ HasReading (map string_bytes words.now) }
+    ensures no_reading { (¬ HasReading (map string_bytes words.now))
         → ((result ≡ Status.Usage) ⊎ (result ≡ Status.SinkFault)) × (source.new ≡ source.old) }
 
     // SourceFault comes only if a read failed, SinkFault only if a write failed.
@@ -81,16 +81,16 @@ pub fn run<S: Source, K: Sink>(
         ⊎ ((result ≡ Status.Refused) × Adds (K.holds sink.old) (K.holds sink.new) (codes "refused,TooLong\n"))) }
 
     // Any other input is read to its end, and gets exactly what the command answers to its bytes.
-    ensures answered { IfSome (S.left source.old) (λ bytes. (c : Command) → command_of (map string_bytes words.now) ≡ Some c
+    ensures answered { IfSome (S.left source.old) (λ bytes. (c : Command) → Names (map string_bytes words.now) c
         → length bytes ≤ most_input_bytes → IsInterrupted result ⊎ TellsOf c bytes (K.holds sink.old) (K.holds sink.new) result) }
     ensures fine { result ≡ Status.Fine → IsAnswered (map string_bytes words.now) (S.left source.old) (S.left source.new)
         (K.holds sink.old) (K.holds sink.new) Status.Fine }
 
     // A bundle that `check` accepts is a wall's, and the interval that is written is sound on every refinement of the wall.
-    ensures certified { result ≡ Status.Fine → command_of (map string_bytes words.now) ≡ Some Command.Check
+    ensures certified { result ≡ Status.Fine → Names (map string_bytes words.now) Command.Check
         → TellsAccepted (S.left source.old) (S.left source.new) (K.holds sink.old) (K.holds sink.new) }
     ensures certificate_refused { result ≡ Status.CertificateRefused
-        → (command_of (map string_bytes words.now) ≡ Some Command.Check)
+        → Names (map string_bytes words.now) Command.Check
         × IsAnswered (map string_bytes words.now) (S.left source.old) (S.left source.new)
         (K.holds sink.old) (K.holds sink.new) Status.CertificateRefused }
 {

@@ -18,8 +18,8 @@ const DETAIL: &str = "detail,1,3\nenv,inside\nenv,outside\nmat,wall,1\n\
 solid,wall,0.1,200.1,0,1000,0,1000\n\
 air,inside,0.13,0,0.1,0,1000,0,1000\nair,outside,0.04,200.1,200.2,0,1000,0,1000\n\n";
 
-// A word, the exit code and the text that are to be told, and what stands in the place of some lines of the bundle, or
-// for the other words of the detail. A semicolon is the end of a line.
+// The words, the exit code and the text that are to be told, and what stands in the place of some lines of the bundle,
+// or for words other than `check` of the detail. A semicolon is the end of a line.
 const CASES: &str = "\
 check|0 accepted,inside,2702702702702700,2702702702702704;end;\n\
 check|0 accepted,inside,0,7692307692307693;end;|13:t,0,0,0,0|14:t,0,0,0,0|15:t,0,0,0,0|16:t,0,0,0,0|18:fx,0,0,0,0|22:interval,0,7692307692307693|23:verdict,sweeps,0\n\
@@ -61,7 +61,11 @@ uvalue|1 refused,BadNumber,record 4 field 3;|4:mat,wall,\n\
 uvalue|1 refused,OutOfRange,record 4 field 3;|4:mat,wall,500.0001\n\
 uvalue|1 refused,OutOfRange,record 4 field 3;|4:mat,wall,0\n\
 uvalue|1 refused,FieldCount,record 8;|8:solid,wall\n\
-uvalue|1 refused,NotBuilt;|8:part,wall,0.13,0.04;layer,wall,200,wall\n\
+uvalue|0 U,wall,2.702702,2.702703,0.0000;end;|8:part,wall,0.13,0.04;layer,wall,200,wall\n\
+uvalue|0 U,thick,0.000000,0.000001,0.0000;end;|4:mat,wall,0.0001|8:part,thick,10,10;layer,thick,50000,wall;layer,thick,50000,wall\n\
+uvalue|0 U,timber,0.317444,0.317445,0.0228;end;|8:mat,plaster,0.25;mat,timber,0.14;mat,wool,0.035;mat,board,0.12;part,timber,0.13,0.04,3,17;layer,timber,12.5,plaster,plaster;layer,timber,140,timber,wool;layer,timber,12,board,board\n\
+uvalue|0 U,wall,2.702702,2.702703,0.0000;U,edge,4.235294,4.235295,0.2001;end;|8:mat,a,3.5;mat,b,0.1;part,wall,0.13,0.04;layer,wall,200,wall;part,edge,0.11,0.04,1,1;layer,edge,70,a,b\n\
+uvalue|1 refused,RatioAbove,part edge;|8:mat,a,3.5;mat,b,0.0999;part,wall,0.13,0.04;layer,wall,200,wall;part,edge,0.11,0.04,1,1;layer,edge,70,a,b;part,next,0.11,0.04,1,1;layer,next,70,a,b\n\
 uvalue|1 refused,EmptyPart,record 9;|8:#;part,wall,0.13,0.04\n\
 solve|1 refused,NotBuilt;\n\
 solve|1 refused,TooFewEnvironments;|3:|7:\n\
@@ -69,18 +73,29 @@ solve|1 refused,NoSolid;|5:\n\
 solve|1 refused,Overlap,boxes 1 2;|6:air,inside,0.13,0,0.2,0,1000,0,1000\n\
 solve|1 refused,Uncovered,200 999.9 999.9;|5:solid,wall,0.1,200.1,0,1000,0,999.9;solid,wall,0.1,200.1,0,999.9,999.9,1000;solid,wall,0.1,200,999.9,1000,999.9,1000\n\
 solve|1 refused,Isolated,0.1 0 0;|6:|7:\n\
+solve --width 0 --grade 0 --halve 0 --sweeps 1|1 refused,NotBuilt;\n\
+solve --grade 12 --halve 6|1 refused,GridTooLarge,cells 543001536;\n\
+solve --halve 6 --grade 12|1 refused,GridTooLarge,lines x 2066;|1:detail,1,2|4:mat,masonry,0.6;mat,insulation,0.04|5:air,outside,0.04,0,0.1,0,1300.1;air,outside,0.04,0.1,1300.1,0,0.1;solid,insulation,0.1,100.1,0.1,1300.1;solid,insulation,100.1,1300.1,0.1,100.1|6:solid,masonry,100.1,300.1,100.1,1300.1;solid,masonry,300.1,1300.1,100.1,300.1;air,inside,0.13,300.1,1300.1,300.1,1300.1|7:\n\
+solve --grade 12 --halve 6|1 refused,Isolated,0.1 0 0;|6:|7:\n\
+solve --grade 13|2 refused,Usage;\n\
+solve --grade|2 refused,Usage;\n\
+solve --halve 1 --halve 1|2 refused,Usage;\n\
+solve 5|2 refused,Usage;\n\
+uvalue --grade 1|2 refused,Usage;\n\
 |2 refused,Usage;\n\
 chec|2 refused,Usage;\n\
-check |2 refused,Usage;\n\
+check check|2 refused,Usage;\n\
 Check|2 refused,Usage;\n\
 uvalues|2 refused,Usage;\n\
 solv|2 refused,Usage;\n\
 --help|2 refused,Usage;";
 
-// What a run tells of a word and these bytes into a sink with this room: the exit code, a space and the text.
-fn told(alloc: Global, word: &str, bytes: Vec<u8>, room: usize) -> Result<Vec<u8>, AllocError> {
+// What a run tells of words and these bytes into a sink with this room: the exit code, a space and the text.
+fn told(alloc: Global, text: &str, bytes: Vec<u8>, room: usize) -> Result<Vec<u8>, AllocError> {
     let mut words = Vec::new(alloc);
-    words.push(String::from_str(alloc, word)?)?;
+    for word in text.split_ascii_whitespace() {
+        words.push(String::from_str(alloc, word)?)?;
+    }
     let mut source = SteadySource::new(bytes);
     let Ok(mut sink) = MemorySink::new(alloc, room, Vec::new(alloc)) else {
         return Err(AllocError);

@@ -4,8 +4,8 @@ use Rattle.tb_outside.specs.Limits.{most_input_bytes}
 use Rattle.tb_outside.specs.Outside.{Adds}
 use Rattle.thermal_cli.specs.declared.status.Status.TheVariants as status
 use Rattle.thermal_cli.specs.declared.words.Command.{Command}
-use Rattle.thermal_cli.specs.Outcome.{HasReading, IsInterrupted, Runs, TellsOf}
-use Rattle.thermal_cli.specs.Words.{command_of}
+use Rattle.thermal_cli.specs.Outcome.{IsInterrupted, Runs, TellsOf}
+use Rattle.thermal_cli.specs.Words.{HasReading, Names}
 use Rattle.thermal_cli.proofs.Runs.{answered, certificate_refused, certified, fine, no_memory, no_reading, refused, sink_fault, sink_faults_told, source_fault, source_faults_told, too_long, usage_words}
 use Rattle.thermal_cli.proofs.top.run.Goals as goal
 
@@ -36,7 +36,7 @@ returns g c =
       no_memory = λ p. no_memory left f holds e w a b k l s p r;
       refused = λ p. refused left f holds e w a b k l s p r;
       too_long = known (λ bytes. HasReading w → most_input_bytes < length bytes → IsInterrupted s ⊎ ((s ≡ status.Refused) × Adds (holds k) (holds l) (codes "refused,TooLong\n"))) (left a) (λ bytes t h m. too_long left f holds e w a b k l bytes t s h m r);
-      answered = known (λ bytes. (d : Command) → command_of w ≡ Some d → length bytes ≤ most_input_bytes → IsInterrupted s ⊎ TellsOf d bytes (holds k) (holds l) s) (left a) (λ bytes t d h m. answered left f holds e w a b k l bytes t s d h m r);
+      answered = known (λ bytes. (d : Command) → Names w d → length bytes ≤ most_input_bytes → IsInterrupted s ⊎ TellsOf d bytes (holds k) (holds l) s) (left a) (λ bytes t d h m. answered left f holds e w a b k l bytes t s d h m r);
       fine = λ p. fine left f holds e w a b k l s p r;
       certified = λ p q. certified left f holds e w a b k l s p q r;
       certificate_refused = λ p. certificate_refused left f holds e w a b k l s p r;

@@ -1,0 +1,8 @@
+use Rattle.std.proofs.Common.{◌≡◌, ◌∙◌}
+use Rattle.std.specs.Prelude.{decimal}
+use Rattle.thermal_cli.proofs.solve.put_cells.Goals as goal
+
+pub returns : goal.returns
+returns g c =
+    let count : c.as_bytes-count.result.now ≡ decimal c.args.count = c.as_bytes-count.ensures.value ∙ c.format.ensures.text in
+    rw count at c.put_pieces.ensures
