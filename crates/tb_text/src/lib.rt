@@ -10,6 +10,4 @@ mod laws;
 
 pub use laws::{read_details_are_written, written_details_read_back};
 pub use tb_canonical::{put_detail, write_detail};
-pub use tb_reading::{
-    DetailBuilder, DetailFault, DetailKind, DetailRefusal, read_detail,
-};
+pub use tb_reading::{DetailBuilder, DetailFault, DetailKind, DetailRefusal, read_detail};

@@ -27,7 +27,7 @@ const Y: [u32; 5] = [0, 1, 300, 399, 400];
 
 const Z: [u32; 3] = [0, 77, 200];
 
-fn axis(alloc: Global, lines: &[u32]) -> Result<Axis, Fail>
+pub(crate) fn axis(alloc: Global, lines: &[u32]) -> Result<Axis, Fail>
     requires { length lines.now ≤ 100 }
 {
     match Axis::new(Vec::from_slice(alloc, lines)?) {
@@ -162,7 +162,7 @@ fn wall(alloc: Global) -> Result<Detail, Fail>
     }
 }
 
-fn body_of(alloc: Global, detail: &Detail) -> Result<Body, Fail>
+pub(crate) fn body_of(alloc: Global, detail: &Detail) -> Result<Body, Fail>
     requires { InLimits detail.now }
 {
     match Body::new(alloc, detail) {

@@ -1,5 +1,5 @@
-//! Tests that cross crates: the commands from words and bytes to text and status, and bodies on grids beside the plain
-//! program.
+//! Tests that cross crates: the commands from words and bytes to text and status, bodies on grids beside the plain
+//! program, and fields and fluxes on bodies.
 #![tactic(auto)]
 
 #[cfg(test)]
@@ -8,3 +8,5 @@ mod commands;
 mod faults;
 #[cfg(test)]
 mod grids;
+#[cfg(test)]
+mod walls;
