@@ -25,7 +25,7 @@ found_for w = record { lo = lower_end_of w; hi = upper_end_of w }
 
 -- Sound: on every refinement of the wall, whatever its lines and its scale, every temperature field has energy at least
 -- the lower end, and every balanced flux a bound at most the upper end. The bundle's own grid is one of these.
-abbrev pub IsCertified : Wall → Interval → Type 0
+unfoldable pub IsCertified : Wall → Interval → Type 0
 IsCertified w i = IsSound (scene_of (detail_of w)) case_inside i.lo i.hi
 
 -- this is answered to the ends that are claimed and those that were found

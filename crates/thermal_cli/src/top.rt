@@ -40,8 +40,9 @@ fn work<S: Source>(alloc: Global, words: &[String], source: &mut S) -> Told
 ///
 /// `check` reads a bundle from the source, and writes the interval that it certifies. `solve` reads a detail and tells
 /// its first fault, that of its body, or why its level grid is too large; solving comes later, so any other body is
-/// refused as not built. `uvalue` reads a detail, and writes the U-values of its parts. `check` and `uvalue` are the only
-/// word; behind `solve` stand its options, each a name and a value: `--width`, `--grade`, `--halve`, `--sweeps`. Where the input is refused, one line says why (`docs/FORMATS.md`). All memory is taken before the first byte is
+/// refused as not built. `uvalue` reads a detail, and writes the U-values of its parts. `check` and `uvalue` are the
+/// only word; behind `solve` stand its options, each a name and a value: `--width`, `--grade`, `--halve`, `--sweeps`.
+/// Where the input is refused, one line says why (`docs/FORMATS.md`). All memory is taken before the first byte is
 /// written.
 pub fn run<S: Source, K: Sink>(
     alloc: Global,
