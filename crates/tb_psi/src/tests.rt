@@ -17,39 +17,25 @@ const PAIR: Interval = Interval {
 
 // A length of 1 m takes U itself away; one of 1.2 m takes 3243243243243242.4 to 3243243243243243.6.
 #[test]
-fn lengths_take_their_walls_away() -> Result<(), Fail> {
+fn lengths_take_their_walls_away(rt: HostRuntime) -> Result<(), Fail> {
     let short = psi(PAIR, &[(WALL, 10_000)]);
-    if short != (Interval { lo: -3, hi: 2 }) {
-        return Err(Fail);
-    }
+    assert_eq!(rt; short, Interval { lo: -3, hi: 2 });
     let long = psi(PAIR, &[(WALL, 12_000)]);
-    if long
-        != (Interval {
-            lo: -540_540_540_540_544,
-            hi: -540_540_540_540_538,
-        })
-    {
-        return Err(Fail);
-    }
+    assert_eq!(rt; long.lo, -540_540_540_540_544);
+    assert_eq!(rt; long.hi, -540_540_540_540_538);
     Ok(())
 }
 
 // An area of 1 m², and 1 m of a ψ between 0.05 and 0.06 W/(m·K).
 #[test]
-fn areas_and_lines_are_taken_away() -> Result<(), Fail> {
+fn areas_and_lines_are_taken_away(rt: HostRuntime) -> Result<(), Fail> {
     let line = LineTerm {
         psi_lo: 50_000,
         psi_hi: 60_000,
         length: 10_000,
     };
     let corner = chi(PAIR, &[(WALL, 10_000)], &[line]);
-    if corner
-        != (Interval {
-            lo: -60_000_000_000_003,
-            hi: -49_999_999_999_998,
-        })
-    {
-        return Err(Fail);
-    }
+    assert_eq!(rt; corner.lo, -60_000_000_000_003);
+    assert_eq!(rt; corner.hi, -49_999_999_999_998);
     Ok(())
 }
