@@ -1,16 +1,16 @@
 -- The ends of an interval: the sums of rounded terms against the energy and the bound, and soundness on one mesh.
-use mathlib.Core.Path.{◌≡◌, refl, sym, ap, ◌∙◌, subst}
+use mathlib.Core.Path.{◌≡◌, refl, sym, subst}
 use mathlib.Core.List.{[], ◌∷◌}
 use Prim.Native.Nat.{ℕ, ◌+◌, ◌<◌}
-use lib.IntN.{ℤ, pos, ◌+ℤ◌, ◌-ℤ◌, neg_ℤ, neg_ℤ-neg_ℤ}
+use lib.IntN.{ℤ, pos, ◌+ℤ◌, ◌-ℤ◌, neg_ℤ}
 use Rattle.tb_math.specs.Rational.{ℚ, int, ◌+ℚ◌, ◌-ℚ◌, neg_ℚ, ◌≤ℚ◌, ◌<ℚ◌}
 use Rattle.tb_math.specs.Ceiling.{ceiling, floor, RoundsTerms}
-use Rattle.tb_math.proofs.RationalLaws.{int-add}
+use Rattle.tb_math.proofs.RationalLaws.{int-neg, int-difference}
 use Rattle.tb_math.proofs.RationalOrder.{≤ℚ-add, ≤ℚ-refl, ≤ℚ-trans}
 use Rattle.tb_math.proofs.RationalProducts.{≤ℚ-neg}
 use Rattle.tb_math.proofs.StrictOrder.{<ℚ-add}
 use Rattle.tb_math.proofs.ReadRationals.{by_reading, reading}
-use Rattle.tb_math.proofs.CeilingLaws.{ceiling-above, ceiling-int}
+use Rattle.tb_math.proofs.CeilingLaws.{ceiling-above}
 use Rattle.tb_math.proofs.SumsOfCeilings.{rounds-none, rounds-one, rounds-plus}
 use Rattle.tb_model.specs.Mesh.{Mesh}
 use Rattle.tb_model.specs.Energy.{Case, Field, Flux, Terms, IsBalanced, exact, rounded_up, number_of_terms, field_terms, flux_terms, energy, source, bound, upper_end, lower_end}
@@ -65,10 +65,6 @@ pub upper_end_near : (m : Mesh) (inside : Case) (T : Field) → RoundsTerms (num
 unfolding energy upper_end
 upper_end_near m inside T = terms_near m (field_terms m inside T)
 
-pub int-neg : (z : ℤ) → int (neg_ℤ z) ≡ neg_ℚ (int z)
-unfolding int neg_ℚ
-int-neg z = refl
-
 -- rounded down, a number is not above itself
 floor-below : (p : ℚ) → int (floor p) ≤ℚ p
 unfolding floor
@@ -77,16 +73,9 @@ floor-below p = subst (λ (t : ℚ). int (neg_ℤ (ceiling (neg_ℚ p))) ≤ℚ 
     twice : (p : ℚ) → neg_ℚ (neg_ℚ p) ≡ p
     twice p = by_reading {atoms = p ∷ []} (search reading) (search reading) refl
 
-floor-int : (z : ℤ) → floor (int z) ≡ z
-unfolding floor
-floor-int z = ap (λ (t : ℚ). neg_ℤ (ceiling t)) (sym (int-neg z)) ∙ ap neg_ℤ (ceiling-int (neg_ℤ z)) ∙ neg_ℤ-neg_ℤ z
-
-difference : (a b : ℤ) → int (a -ℤ b) ≡ int a -ℚ int b
-difference a b = int-add a (neg_ℤ b) ∙ ap (λ (t : ℚ). int a +ℚ t) (int-neg b)
-
 pub lower_end_below : (m : Mesh) (inside : Case) (q : Flux) → int (lower_end m inside q) ≤ℚ bound m inside q
 unfolding lower_end bound
-lower_end_below m inside q = subst (λ (t : ℚ). t ≤ℚ source m inside q -ℚ exact m (flux_terms m q)) (sym (difference (floor (source m inside q)) (rounded_up m (flux_terms m q))))
+lower_end_below m inside q = subst (λ (t : ℚ). t ≤ℚ source m inside q -ℚ exact m (flux_terms m q)) (sym (int-difference (floor (source m inside q)) (rounded_up m (flux_terms m q))))
     (≤ℚ-add (int (floor (source m inside q))) (source m inside q) (neg_ℚ (int (rounded_up m (flux_terms m q)))) (neg_ℚ (exact m (flux_terms m q)))
     (floor-below (source m inside q)) (≤ℚ-neg (exact m (flux_terms m q)) (int (rounded_up m (flux_terms m q))) (terms_near m (flux_terms m q)).above))
 

@@ -4,14 +4,13 @@ use Prim.Native.Nat.{ℕ, ◌*◌, ◌^◌}
 use lib.IntN.{ℤ, pos, ◌+ℤ◌, ◌*ℤ◌, neg_ℤ}
 use Rattle.std.specs.Prelude.{Bool, true, false, if◌then◌else◌}
 use Rattle.tb_math.specs.Rational.{ℚ, int, ◌+ℚ◌, ◌*ℚ◌, neg_ℚ}
-use Rattle.tb_math.proofs.RationalLaws.{int-add, int-mul}
+use Rattle.tb_math.proofs.RationalLaws.{int-neg, int-add, int-mul}
 use Rattle.tb_places.specs.declared.AxisName.{AxisName}
 use Rattle.tb_places.specs.declared.AxisName.TheVariants.{X, Y, Z}
 use Rattle.tb_places.specs.Places.{along}
 use Rattle.tb_model.specs.Energy.{Case, Flux, entering_terms, exact, source}
 use Rattle.tb_model.specs.Mesh.{Mesh}
 use Rattle.tb_model.specs.Whole.{IsWhole}
-use Rattle.tb_duality.proofs.EndLaws.{int-neg}
 use Rattle.tb_duality.proofs.MeshSums.{exact_related}
 
 data One : Type 0 where

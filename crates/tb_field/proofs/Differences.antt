@@ -1,23 +1,14 @@
 -- Differences of whole numbers as rational numbers, and differences of node values along an axis.
-use Rattle.std.proofs.Common.{◌≡◌, ℕ, suc, ◌+◌, ◌/◌, ◌%◌, List, refl, ap, sym, ◌∙◌, add-one, ℤ, pos, neg_ℤ}
-use Rattle.std.specs.Prelude.{slice_index_or, ◌-ℤ◌}
-use Rattle.tb_math.specs.Rational.{ℚ, int, neg_ℚ, ◌+ℚ◌, ◌-ℚ◌}
-use Rattle.tb_math.proofs.RationalLaws.{int-add}
+use Rattle.std.proofs.Common.{◌≡◌, ℕ, suc, ◌+◌, ◌/◌, ◌%◌, List, ap, ◌∙◌, add-one, ℤ}
+use Rattle.tb_math.specs.Rational.{ℚ, int, ◌-ℚ◌}
+use Rattle.tb_math.proofs.RationalLaws.{int-difference}
 use Rattle.tb_places.specs.declared.AxisName.{AxisName}
 use Rattle.tb_places.specs.declared.AxisName.TheVariants.{X, Y, Z}
 use Rattle.tb_places.specs.Along.{index_along}
 use Rattle.tb_places.specs.Inverse.{cell_place}
 use Rattle.tb_places.specs.Places.{along, second, third}
-use Rattle.tb_grid.specs.Direction.{high_end_of, low_end_of}
 use Rattle.tb_grid.specs.Grid.{Axes, counts_of}
 use Rattle.tb_field.specs.Fields.{difference_at, field_on}
-
-int-neg : (z : ℤ) → int (neg_ℤ z) ≡ neg_ℚ (int z)
-unfolding int neg_ℚ
-int-neg z = refl
-
-pub int-difference : (a b : ℤ) → int (a -ℤ b) ≡ int a -ℚ int b
-int-difference a b = int-add a (neg_ℤ b) ∙ ap (λ (t : ℚ). int a +ℚ t) (int-neg b)
 
 -- how much a field rises along an axis, from the index i of that axis to j, at indexes of the other two
 unfoldable rise : Axes → List ℤ → AxisName → ℕ → ℕ → ℕ → ℕ → ℚ

@@ -6,14 +6,14 @@ use mathlib.Core.Quot.{mk, ind}
 use Prim.Native.Nat.{ℕ, ◌<◌}
 use native.Mathlib.Omega.{arith}
 use Rattle.std.proofs.lemmas.Int.{ints}
-use lib.IntN.{ℤ, pos, ◌+ℤ◌, ◌*ℤ◌}
+use lib.IntN.{ℤ, pos, ◌+ℤ◌, ◌*ℤ◌, neg_ℤ, neg_ℤ-neg_ℤ}
 use lib.Signed.{◌≤ℤ◌, ◌<ℤ◌}
 use Rattle.tb_math.specs.Integers.{le_antisym}
 use Rattle.tb_math.specs.Fraction.{Fraction, ◌≈◌, ◌+F◌, whole}
 use Rattle.tb_math.specs.FractionEquality.{≈-refl, ≈→≼}
 use Rattle.tb_math.specs.Rational.{ℚ, int, one_over, ratio, ◌+ℚ◌, ◌*ℚ◌, neg_ℚ, ◌≤ℚ◌, ◌<ℚ◌}
-use Rattle.tb_math.specs.Ceiling.{RoundsUp, quotient_up, quotient_up-rounds, rounds_up-le, ceiling}
-use Rattle.tb_math.proofs.RationalLaws.{int-add, fraction_is, one_over_cancel}
+use Rattle.tb_math.specs.Ceiling.{RoundsUp, quotient_up, quotient_up-rounds, rounds_up-le, ceiling, floor}
+use Rattle.tb_math.proofs.RationalLaws.{int-add, int-neg, fraction_is, one_over_cancel}
 use Rattle.tb_math.proofs.RationalOrder.{≤ℚ-from, ≤ℚ-to, ≤ℚ-prop, ≤ℚ-int, ≤ℚ-add, ≤ℚ-refl, ≤ℚ-trans}
 use Rattle.tb_math.proofs.StrictOrder.{int-<, <ℚ-int, <-≤-trans}
 use Rattle.tb_math.proofs.ReadRationals.{by_given, reading, none, given}
@@ -74,6 +74,10 @@ ceiling-mono p q h = (ceiling-least p (ceiling q)).1 (≤ℚ-trans p q (int (cei
 pub ceiling-int : (z : ℤ) → ceiling (int z) ≡ z
 ceiling-int z = sym (ceiling-unique (int z) z (≤ℚ-refl (int z))
     (subst (λ (t : ℚ). int z <ℚ t) (int-add z (pos 1)) (<ℚ-int z (z +ℤ pos 1) (omega (arith, ints)))))
+
+pub floor-int : (z : ℤ) → floor (int z) ≡ z
+unfolding floor
+floor-int z = ap (λ (t : ℚ). neg_ℤ (ceiling t)) (sym (int-neg z)) ∙ ap neg_ℤ (ceiling-int (neg_ℤ z)) ∙ neg_ℤ-neg_ℤ z
 
 pub ceiling-nonneg : (q : ℚ) → int (pos 0) ≤ℚ q → pos 0 ≤ℤ ceiling q
 ceiling-nonneg q h = subst (λ (t : ℤ). t ≤ℤ ceiling q) (ceiling-int (pos 0)) (ceiling-mono (int (pos 0)) q h)

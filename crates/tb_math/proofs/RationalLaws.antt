@@ -1,13 +1,13 @@
 -- The ring laws of the rational numbers, of the whole numbers among them, and of one over a natural number.
-use mathlib.Core.Path.{◌≡◌, refl}
+use mathlib.Core.Path.{◌≡◌, refl, ap, ◌∙◌}
 use mathlib.Core.List.{[], ◌∷◌}
 use mathlib.Core.Quot.{mk, sound, ind}
 use Prim.Native.Nat.{ℕ, zero, suc, ◌<◌}
 use native.Mathlib.Omega.{arith}
-use lib.IntN.{ℤ, pos, ◌+ℤ◌, ◌*ℤ◌}
+use lib.IntN.{ℤ, pos, ◌+ℤ◌, ◌-ℤ◌, ◌*ℤ◌, neg_ℤ}
 use Rattle.tb_math.specs.Fraction.{Fraction, ◌≈◌, ◌+F◌, ◌*F◌, neg_F, whole}
 use Rattle.tb_math.specs.FractionEquality.{+F-comm, *F-comm}
-use Rattle.tb_math.specs.Rational.{ℚ, ℚ_set, ◌+ℚ◌, ◌*ℚ◌, neg_ℚ, int, one_over}
+use Rattle.tb_math.specs.Rational.{ℚ, ℚ_set, ◌+ℚ◌, ◌-ℚ◌, ◌*ℚ◌, neg_ℚ, int, one_over}
 use Rattle.tb_math.proofs.ReadIntegers.{by_reading, reading}
 
 +F-assoc : (x y z : Fraction) → x +F y +F z ≈ x +F (y +F z)
@@ -96,6 +96,13 @@ unfolding ◌*ℚ◌ ◌+ℚ◌
 pub int-add : (a b : ℤ) → int (a +ℤ b) ≡ int a +ℚ int b
 unfolding ◌+ℚ◌ int
 int-add a b = sound (record { same = by_reading {atoms = a ∷ b ∷ []} (search reading) (search reading) refl })
+
+pub int-neg : (z : ℤ) → int (neg_ℤ z) ≡ neg_ℚ (int z)
+unfolding int neg_ℚ
+int-neg z = refl
+
+pub int-difference : (a b : ℤ) → int (a -ℤ b) ≡ int a -ℚ int b
+int-difference a b = int-add a (neg_ℤ b) ∙ ap (λ (t : ℚ). int a +ℚ t) (int-neg b)
 
 pub int-mul : (a b : ℤ) → int (a *ℤ b) ≡ int a *ℚ int b
 unfolding ◌*ℚ◌ int

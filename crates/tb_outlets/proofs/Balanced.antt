@@ -1,9 +1,9 @@
 -- A flux is balanced where nothing is lost in its solid cells, by the numbers of cells and faces.
 use Rattle.std.proofs.Common.{◌≡◌, ℕ, List, add-one, refl, sym, ap, subst, ◌∙◌}
-use Rattle.std.specs.Prelude.{ℤ, pos, ◌+ℤ◌, ◌-ℤ◌, neg_ℤ}
-use Rattle.tb_math.specs.Rational.{◌≤ℚ◌, ℚ, int, ◌+ℚ◌, ◌-ℚ◌, neg_ℚ}
+use Rattle.std.specs.Prelude.{ℤ, pos, ◌+ℤ◌, ◌-ℤ◌}
+use Rattle.tb_math.specs.Rational.{◌≤ℚ◌, ℚ, int, ◌+ℚ◌, ◌-ℚ◌}
 use Rattle.tb_math.specs.Integers.{le_antisym}
-use Rattle.tb_math.proofs.RationalLaws.{int-add}
+use Rattle.tb_math.proofs.RationalLaws.{int-difference, int-add}
 use Rattle.tb_math.proofs.RationalOrder.{≤ℚ-refl}
 use Rattle.tb_math.proofs.StrictOrder.{int-≤}
 use Rattle.tb_places.specs.declared.Place.{Place}
@@ -14,13 +14,6 @@ use Rattle.tb_model.specs.Energy.{outflow}
 use Rattle.tb_outlets.specs.Flows.{net}
 use Rattle.tb_outlets.specs.Sides.{face_of}
 use Rattle.tb_outlets.specs.Balancing.{flow}
-
-int-neg : (z : ℤ) → int (neg_ℤ z) ≡ neg_ℚ (int z)
-unfolding int neg_ℚ
-int-neg z = refl
-
-int-difference : (a b : ℤ) → int (a -ℤ b) ≡ int a -ℚ int b
-int-difference a b = int-add a (neg_ℤ b) ∙ ap (λ (q : ℚ). int a +ℚ q) (int-neg b)
 
 int_apart : (a b : ℤ) → int a ≡ int b → a ≡ b
 int_apart a b same = le_antisym a b

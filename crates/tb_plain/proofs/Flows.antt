@@ -5,8 +5,8 @@ use Rattle.std.proofs.lemmas.Int.{ints}
 use Rattle.tb_math.specs.Rational.{ℚ, int, ◌+ℚ◌, ◌*ℚ◌, neg_ℚ}
 use Rattle.tb_math.specs.Ceiling.{ceiling, floor}
 use Rattle.tb_math.specs.Sums.{total, total_ℤ}
-use Rattle.tb_math.proofs.RationalLaws.{int-add, int-mul}
-use Rattle.tb_math.proofs.CeilingLaws.{ceiling-int}
+use Rattle.tb_math.proofs.RationalLaws.{int-neg, int-add, int-mul}
+use Rattle.tb_math.proofs.CeilingLaws.{floor-int, ceiling-int}
 use Rattle.tb_places.specs.declared.AxisName.{AxisName}
 use Rattle.tb_places.specs.declared.AxisName.TheVariants.{X, Y, Z}
 use Rattle.tb_places.specs.Places.{along, second, third}
@@ -48,10 +48,6 @@ net_whole z = record { is = ap int (sym (parts z) ∙ ap (λ (t : ℤ). t -ℤ p
 
 net_zero : Net (int (pos 0)) (ceiling (int (pos 0))) (ceiling (int (pos 0)))
 net_zero = subst (λ (t : ℤ). Net (int (pos 0)) t t) (sym (ceiling-int (pos 0))) net_none
-
-int-neg : (z : ℤ) → int (neg_ℤ z) ≡ neg_ℚ (int z)
-unfolding int neg_ℚ
-int-neg z = refl
 
 into : (low : Bool) (z : ℤ) → int (entering low z) ≡ (if low then int z else neg_ℚ (int z))
 into true z = refl
@@ -102,13 +98,6 @@ module _ (m : Mesh) (inside : Case) (values : List ℤ) where
   net_all : Net (exact m all) (rounded_up m inwards) (rounded_up m outwards)
   unfolding exact rounded_up
   net_all = net_plus _ _ _ _ _ _ (net_plus _ _ _ _ _ _ (net_axis X) (net_axis Y)) (net_axis Z)
-
-  floor-int : (z : ℤ) → floor (int z) ≡ z
-  unfolding floor
-  floor-int z = ap (λ (q : ℚ). neg_ℤ (ceiling q)) (sym (int-neg z)) ∙ ap neg_ℤ (ceiling-int (neg_ℤ z)) ∙ twice z
-    where
-      twice : (z : ℤ) → neg_ℤ (neg_ℤ z) ≡ z
-      twice z = omega (arith, ints)
 
   pub source_is : floor (source m inside (flux_of m.cells values)) ≡ pos (2 * 10 ^ 6) *ℤ (rounded_up m inwards -ℤ rounded_up m outwards)
   unfolding source

@@ -1,10 +1,10 @@
 -- The numbers at a cell or a face are within limits, and their terms are those of the model.
 use Rattle.std.specs.Prelude.{unsigned_abs}
-use Rattle.std.proofs.Common.{◌≡◌, refl, sym, ap, ◌∙◌, subst, ℕ, suc, ◌^◌, ◌<◌, ◌≤◌, List, [], ◌∷◌, length, get_or, All, arith, ℤ, pos, ◌-ℤ◌, neg_ℤ, ◌≤ℤ◌, Bool, true, false, if◌then◌else◌}
+use Rattle.std.proofs.Common.{◌≡◌, refl, sym, ap, ◌∙◌, subst, ℕ, suc, ◌^◌, ◌<◌, ◌≤◌, List, [], ◌∷◌, length, get_or, All, arith, ℤ, pos, ◌-ℤ◌, ◌≤ℤ◌, Bool, true, false, if◌then◌else◌}
 use Rattle.std.proofs.lemmas.Int.{ints}
 use Rattle.std.proofs.lemmas.List.Elements.{All-get_or, All-cons}
-use Rattle.tb_math.specs.Rational.{ℚ, int, ◌+ℚ◌, ◌*ℚ◌, ◌-ℚ◌, neg_ℚ}
-use Rattle.tb_math.proofs.RationalLaws.{int-add}
+use Rattle.tb_math.specs.Rational.{ℚ, int, ◌*ℚ◌, ◌-ℚ◌}
+use Rattle.tb_math.proofs.RationalLaws.{int-difference}
 use Rattle.tb_places.specs.declared.AxisName.{AxisName}
 use Rattle.tb_places.specs.declared.AxisName.TheVariants.{X, Y, Z}
 use Rattle.tb_places.specs.Places.{along, second, third, node_number, face_number}
@@ -135,13 +135,6 @@ flux_face_fits g values at rs h v l r = record { resistance = r; b = width_fits 
 
 -- ---- the terms of the model
 
-int-neg : (z : ℤ) → int (neg_ℤ z) ≡ neg_ℚ (int z)
-unfolding int neg_ℚ
-int-neg z = refl
-
-pub int-minus : (x y : ℤ) → int (x -ℤ y) ≡ int x -ℚ int y
-int-minus x y = int-add x (neg_ℤ y) ∙ ap (λ (q : ℚ). int x +ℚ q) (int-neg y)
-
 -- a field and a flux of whole numbers, along an axis
 field_along : (g : PlainGrid) (values : List ℤ) (a : AxisName) (i j k : ℕ) → along a (field_of (mesh_of g).cells values) i j k ≡ int (temperature_on g values a i j k)
 field_along g values X i j k = refl
@@ -157,7 +150,7 @@ area_is : (g : PlainGrid) (a : AxisName) (j k : ℕ) → area_of (width_of g (se
 area_is g a j k = ap (λ (q : ℚ). q *ℚ int (pos (width_of g (third a) k))) (width_is g (second a) j) ∙ ap (λ (q : ℚ). (mesh_of g).width (second a) j *ℚ q) (width_is g (third a) k)
 
 rise_is : (g : PlainGrid) (values : List ℤ) (a : AxisName) (i j k : ℕ) → int (rise_on g values a i j k) ≡ along a (field_of (mesh_of g).cells values) (suc i) j k -ℚ along a (field_of (mesh_of g).cells values) i j k
-rise_is g values a i j k = int-minus _ _ ∙ ap (λ (q : ℚ). q -ℚ int (temperature_on g values a i j k)) (sym (field_along g values a (suc i) j k)) ∙ ap (λ (q : ℚ). along a (field_of (mesh_of g).cells values) (suc i) j k -ℚ q) (sym (field_along g values a i j k))
+rise_is g values a i j k = int-difference _ _ ∙ ap (λ (q : ℚ). q -ℚ int (temperature_on g values a i j k)) (sym (field_along g values a (suc i) j k)) ∙ ap (λ (q : ℚ). along a (field_of (mesh_of g).cells values) (suc i) j k -ℚ q) (sym (field_along g values a i j k))
 
 level_is : (inside : Case) (e : ℕ) → int (level inside e) ≡ boundary inside e
 level_is inside e = by_test (inside e)
@@ -167,7 +160,7 @@ level_is inside e = by_test (inside e)
     by_test false = refl
 
 excess_is : (g : PlainGrid) (values : List ℤ) (inside : Case) (a : AxisName) (i j k e : ℕ) → int (temperature_on g values a i j k -ℤ level inside e) ≡ along a (field_of (mesh_of g).cells values) i j k -ℚ boundary inside e
-excess_is g values inside a i j k e = int-minus _ _ ∙ ap (λ (q : ℚ). q -ℚ int (level inside e)) (sym (field_along g values a i j k)) ∙ ap (λ (q : ℚ). along a (field_of (mesh_of g).cells values) i j k -ℚ q) (level_is inside e)
+excess_is g values inside a i j k e = int-difference _ _ ∙ ap (λ (q : ℚ). q -ℚ int (level inside e)) (sym (field_along g values a i j k)) ∙ ap (λ (q : ℚ). along a (field_of (mesh_of g).cells values) i j k -ℚ q) (level_is inside e)
 
 spreads : (p q r s p' q' r' s' : ℚ) → p ≡ p' → q ≡ q' → r ≡ r' → s ≡ s' → spread p q r s ≡ spread p' q' r' s'
 spreads p q r s p' q' r' s' e f g h = ap (λ t. spread t q r s) e ∙ ap (λ t. spread p' t r s) f ∙ ap (λ t. spread p' q' t s) g ∙ ap (λ t. spread p' q' r' t) h

@@ -1,7 +1,7 @@
 -- The least and the most that terms take away hold what they take away.
-use Rattle.std.proofs.Common.{◌≡◌, refl, sym, ap, subst, ◌∙◌, neg_ℤ, ℕ, ◌*◌, ◌^◌, ℤ, pos, ◌-ℤ◌, List, length, [], ◌∷◌, arith}
-use Rattle.tb_math.specs.Rational.{ℚ, int, one_over, ◌+ℚ◌, ◌-ℚ◌, ◌*ℚ◌, ◌≤ℚ◌, neg_ℚ}
-use Rattle.tb_math.proofs.RationalLaws.{int-add, int-mul, one_over_cancel}
+use Rattle.std.proofs.Common.{◌≡◌, refl, sym, ap, subst, ◌∙◌, ℕ, ◌*◌, ◌^◌, ℤ, pos, ◌-ℤ◌, List, length, [], ◌∷◌, arith}
+use Rattle.tb_math.specs.Rational.{ℚ, int, one_over, ◌-ℚ◌, ◌*ℚ◌, ◌≤ℚ◌, neg_ℚ}
+use Rattle.tb_math.proofs.RationalLaws.{int-difference, int-mul, one_over_cancel}
 use Rattle.tb_math.proofs.RationalOrder.{≤ℚ-add}
 use Rattle.tb_math.proofs.RationalProducts.{≤ℚ-neg}
 use Rattle.tb_math.proofs.RationalSums.{total-int, total-mono}
@@ -60,13 +60,6 @@ lines_most terms p h = subst (λ (t : ℚ). line_heat terms p ≤ℚ t) (sym (to
     (λ i l. (line_held (line_term terms i) (p i) (h i l)).below_high))
 
 -- ---- what is left
-
-int-neg : (z : ℤ) → int (neg_ℤ z) ≡ neg_ℚ (int z)
-unfolding int neg_ℚ
-int-neg z = refl
-
-int-difference : (a b : ℤ) → int (a -ℤ b) ≡ int a -ℚ int b
-int-difference a b = int-add a (neg_ℤ b) ∙ ap (λ (t : ℚ). int a +ℚ t) (int-neg b)
 
 -- from at least z at most w is taken away, and from at most z at least w
 pub left_least : (z w : ℤ) (x h : ℚ) → int z ≤ℚ x → h ≤ℚ int w → int (z -ℤ w) ≤ℚ x -ℚ h

@@ -1,23 +1,21 @@
 -- The numbers of a cell of a run meet the terms of the model.
-use Rattle.std.proofs.Common.{◌≡◌, refl, sym, subst, ap, ◌∙◌, ℕ, zero, suc, ◌+◌, ◌-◌, ◌<◌, ◌≤◌, ◌^◌, ◌⊎◌, inl, inr, ⊎_elim, List, get_or, length, map, Option, Some, None, Bool, true, false, if◌then◌else◌, ℤ, pos, ◌+ℤ◌, ◌-ℤ◌, neg_ℤ, arith, add-one, ◌==◌}
+use Rattle.std.proofs.Common.{◌≡◌, refl, sym, ap, ◌∙◌, ℕ, suc, ◌+◌, ◌-◌, ◌<◌, ◌≤◌, ◌^◌, ◌⊎◌, inl, inr, List, get_or, map, Option, Some, None, Bool, true, false, if◌then◌else◌, ℤ, pos, ◌+ℤ◌, ◌-ℤ◌, arith, add-one, ◌==◌}
 use Rattle.std.specs.Option.{option_map}
 use Rattle.std.proofs.lemmas.Bool.Decides.{nat_tests}
 use Rattle.std.proofs.lemmas.Int.{ints}
-use Rattle.tb_math.specs.Rational.{ℚ, int, one_over, ratio, ◌+ℚ◌, ◌*ℚ◌, ◌-ℚ◌, neg_ℚ}
+use Rattle.tb_math.specs.Rational.{ℚ, int, one_over, ratio, ◌*ℚ◌, ◌-ℚ◌}
 use Rattle.tb_math.specs.Ceiling.{ceiling}
-use Rattle.tb_math.specs.Sums.{total_ℤ}
-use Rattle.tb_math.proofs.RationalLaws.{int-add, *ℚ_comm, *ℚ_one}
+use Rattle.tb_math.proofs.RationalLaws.{int-difference, *ℚ_comm, *ℚ_one}
 use Rattle.tb_math.proofs.SumInstances.{adds_ℤ}
-use Rattle.tb_math.proofs.SumLaws.{sum-cong, sum-none, sum-split}
-use Rattle.tb_places.specs.declared.AxisName.{AxisName}
+use Rattle.tb_math.proofs.SumLaws.{sum-cong, sum-none}
 use Rattle.tb_places.specs.declared.AxisName.TheVariants.{X, Y, Z}
-use Rattle.tb_places.specs.Places.{along, place_at}
+use Rattle.tb_places.specs.Places.{place_at}
 use Rattle.tb_detail.specs.declared.Content.{Content}
 use Rattle.tb_detail.specs.declared.Content.TheVariants as content
 use Rattle.tb_detail.specs.declared.Material.{Material}
 use Rattle.tb_grid.specs.Grid.{counts_of}
 use Rattle.tb_model.specs.Energy.{boundary, cell_energy, of_solid, spread, surface_energy}
-use Rattle.tb_model.specs.Mesh.{above, below}
+use Rattle.tb_model.specs.Mesh.{below}
 use Rattle.tb_model.specs.Values.{case_of}
 use Rattle.tb_terms.specs.Terms.{field_cell_term, field_face_term}
 use Rattle.tb_geometry.specs.Bodies.{filled_with}
@@ -31,7 +29,7 @@ use Rattle.tb_sums.specs.declared.run.Run.{Run}
 use Rattle.tb_sums.specs.Around.{filled_above, filled_below}
 use Rattle.tb_sums.specs.BodyFields.{IsRowOf, IsRunOf, cell_up, cells_from, mesh_under, node_at, terms_under}
 use Rattle.tb_sums.specs.Cells.{at_air}
-use Rattle.tb_sums.specs.Corners.{along_x, along_y, along_z, cell_at, face_across, face_at}
+use Rattle.tb_sums.specs.Corners.{cell_at, face_across, face_at}
 use Rattle.tb_sums.specs.NodeRows.{corners_at}
 use Rattle.tb_sums.specs.Runs.{high_at, low_at}
 use Rattle.tb_sums.specs.RunSums.{run_up, solid_at}
@@ -63,15 +61,8 @@ face_meets rs b c d00 d10 d01 d11 B C e00 e10 e01 e11 eb ec h00 h10 h01 h11 =
     ∙ ap (λ (w : ℚ). surface_energy rs (B *ℚ C) w) (spreads _ _ _ _ _ _ _ _ h00 h10 h01 h11)
 
 -- ---- numbers
-int-neg : (z : ℤ) → int (neg_ℤ z) ≡ neg_ℚ (int z)
-unfolding int neg_ℚ
-int-neg z = refl
-
-int-minus : (x y : ℤ) → int (x -ℤ y) ≡ int x -ℚ int y
-int-minus x y = int-add x (neg_ℤ y) ∙ ap (λ (q : ℚ). int x +ℚ q) (int-neg y)
-
 rise_meets : (x y u v : ℤ) → x ≡ u → y ≡ v → int (x -ℤ y) ≡ int u -ℚ int v
-rise_meets x y u v e f = ap (λ (z : ℤ). int (z -ℤ y)) e ∙ ap (λ (z : ℤ). int (u -ℤ z)) f ∙ int-minus u v
+rise_meets x y u v e f = ap (λ (z : ℤ). int (z -ℤ y)) e ∙ ap (λ (z : ℤ). int (u -ℤ z)) f ∙ int-difference u v
 
 level_meets : (m n e : ℕ) → m ≡ n → int (level_of m e) ≡ boundary (case_of n) e
 level_meets m n e is = ap (λ (p : ℕ). int (level_of p e)) is ∙ by_test (case_of n e)

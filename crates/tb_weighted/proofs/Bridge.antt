@@ -6,11 +6,11 @@ use Prim.Native.Nat.{ℕ, suc, ◌^◌, ◌<◌, ◌≤◌}
 use native.Mathlib.Omega.{arith}
 use Rattle.std.specs.Prelude.{Option, Some, None, if◌then◌else◌}
 use Rattle.std.proofs.lemmas.Int.{ints}
-use lib.IntN.{ℤ, pos, ◌+ℤ◌, ◌-ℤ◌, ◌*ℤ◌, neg_ℤ}
-use Rattle.tb_math.specs.Rational.{ℚ, int, ◌+ℚ◌, ◌-ℚ◌, ◌*ℚ◌, neg_ℚ}
-use Rattle.tb_math.specs.Ceiling.{floor, ceiling}
-use Rattle.tb_math.proofs.CeilingLaws.{ceiling-int}
-use Rattle.tb_math.proofs.RationalLaws.{int-add}
+use lib.IntN.{ℤ, pos, ◌+ℤ◌, ◌-ℤ◌, ◌*ℤ◌}
+use Rattle.tb_math.specs.Rational.{ℚ, int, ◌-ℚ◌, ◌*ℚ◌}
+use Rattle.tb_math.specs.Ceiling.{floor}
+use Rattle.tb_math.proofs.CeilingLaws.{floor-int}
+use Rattle.tb_math.proofs.RationalLaws.{int-difference}
 use Rattle.tb_math.proofs.ReadRationals.{by_reading, reading}
 use Rattle.tb_math.proofs.SumLaws.{sum-cong}
 use Rattle.tb_math.proofs.SumInstances.{adds_ℤ}
@@ -33,20 +33,6 @@ use Rattle.tb_weighted.specs.Forms.{IsFormMove}
 use Rattle.tb_weighted.specs.Moves.{IsNodeMove}
 use Rattle.tb_weighted.specs.OnMesh.{IsFormOf, mesh_cell, mesh_face, mesh_level, mesh_forms}
 
-pub int-neg : (z : ℤ) → int (neg_ℤ z) ≡ neg_ℚ (int z)
-unfolding neg_ℚ int
-int-neg z = refl
-
-twice : (z : ℤ) → neg_ℤ (neg_ℤ z) ≡ z
-twice z = omega (arith, ints)
-
-pub floor-int : (z : ℤ) → floor (int z) ≡ z
-unfolding floor
-floor-int z = ap (λ (t : ℚ). neg_ℤ (ceiling t)) (sym (int-neg z)) ∙ ap neg_ℤ (ceiling-int (neg_ℤ z)) ∙ twice z
-
-int_difference : (a b : ℤ) → int (a -ℤ b) ≡ int a -ℚ int b
-int_difference a b = int-add a (neg_ℤ b) ∙ ap (λ (t : ℚ). int a +ℚ t) (int-neg b)
-
 whole_spread : (w a b c d : ℤ) → int w *ℚ spread (int a) (int b) (int c) (int d) ≡ int (w *ℤ form a b c d)
 unfolding spread
 whole_spread w a b c d = by_reading {atoms = int w ∷ int a ∷ int b ∷ int c ∷ int d ∷ []} (search reading depth 60 fits 100000) (search reading depth 60 fits 100000) refl
@@ -54,10 +40,10 @@ whole_spread w a b c d = by_reading {atoms = int w ∷ int a ∷ int b ∷ int c
 -- a weight times the spread of whole differences
 whole_term : (w a0 a1 b0 b1 c0 c1 d0 d1 : ℤ) → floor (int w *ℚ spread (int a1 -ℚ int a0) (int b1 -ℚ int b0) (int c1 -ℚ int c0) (int d1 -ℚ int d0)) ≡ w *ℤ form (a1 -ℤ a0) (b1 -ℤ b0) (c1 -ℤ c0) (d1 -ℤ d0)
 whole_term w a0 a1 b0 b1 c0 c1 d0 d1 =
-    ap (λ (t : ℚ). floor (int w *ℚ spread t (int b1 -ℚ int b0) (int c1 -ℚ int c0) (int d1 -ℚ int d0))) (sym (int_difference a1 a0))
-    ∙ ap (λ (t : ℚ). floor (int w *ℚ spread (int (a1 -ℤ a0)) t (int c1 -ℚ int c0) (int d1 -ℚ int d0))) (sym (int_difference b1 b0))
-    ∙ ap (λ (t : ℚ). floor (int w *ℚ spread (int (a1 -ℤ a0)) (int (b1 -ℤ b0)) t (int d1 -ℚ int d0))) (sym (int_difference c1 c0))
-    ∙ ap (λ (t : ℚ). floor (int w *ℚ spread (int (a1 -ℤ a0)) (int (b1 -ℤ b0)) (int (c1 -ℤ c0)) t)) (sym (int_difference d1 d0))
+    ap (λ (t : ℚ). floor (int w *ℚ spread t (int b1 -ℚ int b0) (int c1 -ℚ int c0) (int d1 -ℚ int d0))) (sym (int-difference a1 a0))
+    ∙ ap (λ (t : ℚ). floor (int w *ℚ spread (int (a1 -ℤ a0)) t (int c1 -ℚ int c0) (int d1 -ℚ int d0))) (sym (int-difference b1 b0))
+    ∙ ap (λ (t : ℚ). floor (int w *ℚ spread (int (a1 -ℤ a0)) (int (b1 -ℤ b0)) t (int d1 -ℚ int d0))) (sym (int-difference c1 c0))
+    ∙ ap (λ (t : ℚ). floor (int w *ℚ spread (int (a1 -ℤ a0)) (int (b1 -ℤ b0)) (int (c1 -ℤ c0)) t)) (sym (int-difference d1 d0))
     ∙ ap floor (whole_spread w (a1 -ℤ a0) (b1 -ℤ b0) (c1 -ℤ c0) (d1 -ℤ d0))
     ∙ floor-int (w *ℤ form (a1 -ℤ a0) (b1 -ℤ b0) (c1 -ℤ c0) (d1 -ℤ d0))
 

@@ -8,6 +8,8 @@ use Rattle.std.specs.Prelude.{Option, Some, None, if◌then◌else◌}
 use lib.IntN.{ℤ, pos, negsuc, ◌+ℤ◌, ◌-ℤ◌, ◌*ℤ◌, neg_ℤ}
 use Rattle.tb_math.specs.Rational.{int, ◌*ℚ◌, neg_ℚ}
 use Rattle.tb_math.specs.Ceiling.{floor}
+use Rattle.tb_math.proofs.RationalLaws.{int-neg}
+use Rattle.tb_math.proofs.CeilingLaws.{floor-int}
 use Rattle.tb_math.proofs.ReadRationals.{by_reading as by_reading_ℚ, reading as reading_ℚ}
 use Rattle.tb_math.proofs.ReadIntegers.{by_reading, reading}
 use Rattle.tb_math.proofs.SumLaws.{sum-cong}
@@ -26,7 +28,6 @@ use Rattle.tb_weighted.specs.Forms.{Spread3, axis_sum}
 use Rattle.tb_weighted.specs.Flows.{FlowForms, Flows3, flow_cell, flow_face, flow_energy}
 use Rattle.tb_weighted.specs.Moves.{whole_flux}
 use Rattle.tb_weighted.specs.OnMesh.{IsFlowFormOf, mesh_flux_cell, mesh_flux_face, mesh_source, mesh_flow_forms}
-use Rattle.tb_weighted.proofs.Bridge.{floor-int, int-neg}
 use Rattle.tb_weighted.proofs.TwoFaces.{axis_mixed}
 
 -- what the source counts, turned

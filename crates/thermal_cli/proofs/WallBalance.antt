@@ -1,10 +1,10 @@
 -- The flux of a wall is balanced where as much heat leaves the solid as enters it; where not, the solid is the cell at
 -- fault.
-use Rattle.std.proofs.Common.{◌≡◌, ◌<◌, ◌≤◌, ℕ, zero, suc, [], ◌∷◌, Some, refl, sym, ap, ◌∙◌, arith, ℤ, pos}
-use Rattle.std.specs.Prelude.{◌-ℤ◌, neg_ℤ}
+use Rattle.std.proofs.Common.{◌≡◌, ◌<◌, ◌≤◌, ℕ, zero, suc, [], ◌∷◌, Some, refl, sym, ap, ◌∙◌, arith, pos}
+use Rattle.std.specs.Prelude.{◌-ℤ◌}
 use Rattle.std.proofs.lemmas.Int.{ints}
-use Rattle.tb_math.specs.Rational.{ℚ, int, ◌+ℚ◌, ◌-ℚ◌, neg_ℚ}
-use Rattle.tb_math.proofs.RationalLaws.{int-add}
+use Rattle.tb_math.specs.Rational.{ℚ, int, ◌+ℚ◌, ◌-ℚ◌}
+use Rattle.tb_math.proofs.RationalLaws.{int-difference}
 use Rattle.tb_math.proofs.ReadRationals.{by_reading, reading}
 use Rattle.tb_places.specs.declared.AxisName.{AxisName}
 use Rattle.tb_places.specs.declared.AxisName.TheVariants.{X, Y, Z}
@@ -23,13 +23,6 @@ use Rattle.thermal_cli.proofs.WallCells.{inner_air, solid_wall, outer_air, inner
 
 abbrev flux : Wall → Flux
 flux w = flux_of (mesh_of w).cells (face_values_of w)
-
-int-neg : (z : ℤ) → int (neg_ℤ z) ≡ neg_ℚ (int z)
-unfolding int neg_ℚ
-int-neg z = refl
-
-int-difference : (a b : ℤ) → int (a -ℤ b) ≡ int a -ℚ int b
-int-difference a b = int-add a (neg_ℤ b) ∙ ap (λ (q : ℚ). int a +ℚ q) (int-neg b)
 
 -- across the other axes nothing flows
 straight_through : (p : ℚ) → p +ℚ (int (pos 0) -ℚ int (pos 0)) +ℚ (int (pos 0) -ℚ int (pos 0)) ≡ p
