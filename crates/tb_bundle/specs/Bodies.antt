@@ -87,6 +87,10 @@ abbrev pub extra_fault : List Numbered → Option BundleFault
 extra_fault [] = None
 extra_fault (r ∷ given) = Some (bundle.Shape r.0)
 
+-- the first fault of the records behind the cases
+abbrev pub end_fault : List Numbered → Option BundleFault
+end_fault given = option_or (first_fault end_table given) (extra_fault (drop 1 given))
+
 -- the first fault of the records behind the detail
 abbrev pub body_fault : Detail → List Numbered → Option BundleFault
 body_fault d given = option_or (first_fault (body_table d given) given) (extra_fault (drop (length (body_table d given)) given))

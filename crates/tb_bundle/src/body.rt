@@ -2,7 +2,8 @@
 ghost use Rattle.std.specs.Prelude.{◌≡◌, ◌∷◌, ◌++◌, [], None, ◌<◌, ◌≤◌, IfOk, MatchResult, codes, length, map, ◌-◌, replicate};
 ghost use Rattle.tb_geometry.specs.Cases.{case_masks};
 ghost use Rattle.tb_case_records.specs.Table.{IsPast, Never, Refuses, Stops};
-ghost use Rattle.tb_bundle.specs.Bodies.{AreCases, HasBaseLines, IsBody, body_fault, case_forms, case_forms_from, cases_of, cases_table, end_table, extra_fault, names_of_set};
+ghost use Rattle.tb_bundle.specs.Bodies.{AreCases, HasBaseLines, IsBody, body_fault, case_forms, case_forms_from, case_form, cases_of, cases_table, end_fault, end_table, extra_fault, names_of_set};
+ghost use Rattle.tb_case_records.specs.Cases.{ReadsCase};
 
 use std::alloc::Global;
 use tb_case_records::{
@@ -53,6 +54,31 @@ fn case_words<'a>(alloc: Global, detail: &'a Detail, mask: u8) -> Result<Vec<&'a
     Ok(words)
 }
 
+/// The next records are those of the case of this number and this set of environments.
+pub fn read_one(
+    reader: &mut RecordReader,
+    alloc: Global,
+    body: Body,
+    number: u8,
+    mask: u8,
+) -> Result<CaseProof, BundleRefusal>
+    requires bases { HasBaseLines body }
+    ensures { ReadsCase (case_form body.entry.detail.now number mask) reader.old reader.new result }
+{
+    let Ok(words) = case_words(alloc, body.detail, mask) else {
+        return Err(BundleRefusal::NoMemory);
+    };
+    let shape = CaseShape {
+        number,
+        case: Case { mask },
+        words: &words,
+        x: body.x,
+        y: body.y,
+        z: body.z,
+    };
+    read_case(reader, alloc, shape)
+}
+
 /// The next records are those of cases with these sets of environments.
 pub fn read_cases(
     reader: &mut RecordReader,
@@ -67,18 +93,7 @@ pub fn read_cases(
 {
     let mut proofs = Vec::new(alloc);
     for (at, mask) in masks.iter().enumerate() {
-        let Ok(words) = case_words(alloc, body.detail, *mask) else {
-            return Err(BundleRefusal::NoMemory);
-        };
-        let shape = CaseShape {
-            number: at as u8 + 1,
-            case: Case { mask: *mask },
-            words: &words,
-            x: body.x,
-            y: body.y,
-            z: body.z,
-        };
-        match read_case(reader, alloc, shape) {
+        match read_one(reader, alloc, body, at as u8 + 1, *mask) {
             Ok(proof) => {
                 let Ok(_) = proofs.push(proof) else {
                     return Err(BundleRefusal::NoMemory);
@@ -90,8 +105,8 @@ pub fn read_cases(
     Ok(proofs)
 }
 
-// The sets of environments of the cases.
-fn masks_of(list: &CaseList, environments: u8) -> &[u8]
+/// The sets of environments of the cases.
+pub fn masks_of(list: &CaseList, environments: u8) -> &[u8]
     requires count { list.now.count ≡ length (case_masks environments) }
     requires masks { list.now.masks ≡ case_masks environments ++ replicate (7 - list.now.count) 0 }
     ensures masks { result.now ≡ case_masks environments }
@@ -129,6 +144,16 @@ fn read_to_end(
     };
     match take_words(reader, &[b"end"]) {
         Ok(()) => Ok(proofs),
+        Err(refusal) => Err(refusal),
+    }
+}
+
+/// The next record is the end, and nothing stands behind it.
+pub fn take_end(reader: &mut RecordReader) -> Result<(), BundleRefusal>
+    ensures { MatchResult result (λ u. end_fault reader.old.ahead ≡ None) (λ e. Refuses (end_fault reader.old.ahead) e) }
+{
+    match take_words(reader, &[b"end"]) {
+        Ok(()) => nothing_more(reader),
         Err(refusal) => Err(refusal),
     }
 }

@@ -27,8 +27,8 @@ pub struct Bundle {
     pub cases: Items<CaseProof>,
 }
 
-// The first record is the head of a bundle.
-fn take_head(reader: &mut RecordReader) -> Result<(), BundleRefusal>
+/// The first record is the head of a bundle.
+pub fn take_head(reader: &mut RecordReader) -> Result<(), BundleRefusal>
     ensures { MatchResult result
         (λ u. (head_fault reader.old.ahead ≡ None) × IsOnePast reader.old reader.new)
         (λ e. Refuses (head_fault reader.old.ahead) e) }

@@ -12,7 +12,8 @@ use crate::reader::RecordReader;
 use crate::values::{take_faces, take_nodes};
 use crate::words::take_words;
 use std::alloc::Global;
-use tb_detail::Items;
+use tb_field::Field;
+use tb_flux::Flux;
 use tb_geometry::Case;
 use tb_grid::{Axis, CellCounts, Grid};
 use tb_places::AxisName;
@@ -24,10 +25,8 @@ pub struct CaseProof {
     /// The environments that are at 1.
     pub case: Case,
     pub grid: Grid,
-    /// The values at the nodes, in the order of their numbers.
-    pub field: Items<i64>,
-    /// The flow through each face in nW, in the order of the numbers of faces.
-    pub flux: Items<i64>,
+    pub field: Field,
+    pub flux: Flux,
     /// The two ends in fW/K.
     pub interval: Interval,
     pub verdict: Verdict,
@@ -190,10 +189,8 @@ fn case_proof(case: Case, grid: Grid, values: CaseValues, last: CaseEnd) -> Case
     CaseProof {
         case,
         grid,
-        field: Items {
-            items: values.field,
-        },
-        flux: Items { items: values.flux },
+        field: Field::from_values(values.field),
+        flux: Flux::from_values(values.flux),
         interval: last.interval,
         verdict: last.verdict,
         width: last.width,

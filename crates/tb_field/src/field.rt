@@ -29,6 +29,21 @@ impl Model for Field {
     ghost view = { λ field. field.values.items };
 }
 
+impl PartialEq for Field {
+    ghost use Rattle.std.specs.Cmp.{partial_equiv_from_equiv};
+    ghost use Rattle.std.specs.Cmp.Lexicographic.{lists_per, pointwise};
+    ghost use Rattle.std.specs.Ordering.{int_eq};
+    ghost use Rattle.std.proofs.lemmas.Cmp.{int_eq_equiv};
+
+    ghost eq = { λ a b. pointwise int_eq a b };
+
+    ghost laws = { lists_per (partial_equiv_from_equiv int_eq_equiv) };
+
+    fn eq(&self, other: &Field) -> bool {
+        self.values == other.values
+    }
+}
+
 impl Field {
     /// The field that is 0 at each node of a grid.
     ///

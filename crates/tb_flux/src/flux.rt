@@ -27,6 +27,21 @@ impl Model for Flux {
     ghost view = { λ flux. flux.values.items };
 }
 
+impl PartialEq for Flux {
+    ghost use Rattle.std.specs.Cmp.{partial_equiv_from_equiv};
+    ghost use Rattle.std.specs.Cmp.Lexicographic.{lists_per, pointwise};
+    ghost use Rattle.std.specs.Ordering.{int_eq};
+    ghost use Rattle.std.proofs.lemmas.Cmp.{int_eq_equiv};
+
+    ghost eq = { λ a b. pointwise int_eq a b };
+
+    ghost laws = { lists_per (partial_equiv_from_equiv int_eq_equiv) };
+
+    fn eq(&self, other: &Flux) -> bool {
+        self.values == other.values
+    }
+}
+
 impl Flux {
     /// The flux that is 0 at each face of a grid.
     ///
