@@ -1,5 +1,5 @@
 -- What is asked of a case of a bundle, once its records have no fault: of its flux, its interval and its verdict.
-use Rattle.std.specs.Prelude.{◌≡◌, ◌↔◌, ℕ, ◌*◌, ◌^◌, ◌≤◌, ℤ, pos, ◌-ℤ◌, ◌≤ℤ◌}
+use Rattle.std.specs.Prelude.{◌≡◌, ◌↔◌, ℕ, ◌*◌, ◌^◌, ℤ, pos, ◌-ℤ◌, ◌≤ℤ◌, All}
 use Rattle.tb_detail.specs.declared.Detail.{Detail}
 use Rattle.tb_model.specs.Energy as model
 use Rattle.tb_model.specs.Energy.{IsBalanced, flux_terms, lower_end, rounded_up, upper_end}
@@ -7,12 +7,15 @@ use Rattle.tb_model.specs.Mesh.{Mesh}
 use Rattle.tb_model.specs.Refinement.{scene_of}
 use Rattle.tb_model.specs.Soundness.{IsSound}
 use Rattle.tb_model.specs.Values.{case_of}
+use Rattle.tb_geometry.specs.Faults.{IsAccepted}
 use Rattle.tb_geometry.specs.Grids.{CarriesBody, mesh_on}
 use Rattle.tb_terms.specs.declared.Interval.{Interval}
 use Rattle.tb_field.specs.Fields.{field_on}
 use Rattle.tb_flux.specs.Fluxes.{flux_on}
 use Rattle.tb_case_records.specs.declared.case.CaseProof.{CaseProof}
 use Rattle.tb_case_records.specs.declared.ends.Verdict.TheVariants.{Done}
+use Rattle.tb_bundle.specs.declared.bundle.Bundle.{Bundle}
+use Rattle.tb_bundle.specs.Limits.{BundleInLimits}
 
 -- the mesh of a case, its environments, its field and its flux
 abbrev pub mesh_of : Detail → CaseProof → Mesh
@@ -50,12 +53,18 @@ IsNarrow c = (c.interval.hi -ℤ c.interval.lo) ≤ℤ pos (c.width * 10 ^ 9)
 abbrev pub IsJudgedRightly : CaseProof → Type 0
 IsJudgedRightly c = (c.verdict ≡ Done) ↔ IsNarrow c
 
--- a case without a fault: its interval is that of its field and its flux, which is balanced. So the interval is sound:
+-- A case without a fault: its interval is that of its field and its flux, which is balanced. So the interval is sound:
 -- on every refinement of the body each field has an energy of at least the lower end, and each balanced flux a bound of
 -- at most the upper end
-pub record IsCertified (d : Detail) (c : CaseProof) : Type 0 where
+pub record IsCertifiedCase (d : Detail) (c : CaseProof) : Type 0 where
   pub carries : CarriesBody c.grid d
   pub balanced : IsBalanced (mesh_of d c) (flux_in c)
   pub ends : c.interval ≡ ends_of d c
   pub verdict : IsJudgedRightly c
   pub sound : IsSound (scene_of d) (inside_of c) c.interval.lo c.interval.hi
+
+-- a bundle without a fault: it is within the limits of its format, its detail is a body, and so is each case
+pub record AreCertified (b : Bundle) : Type 0 where
+  pub limits : BundleInLimits b
+  pub body : IsAccepted b.detail
+  pub cases : All (IsCertifiedCase b.detail) b.cases
