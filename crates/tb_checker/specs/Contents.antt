@@ -1,5 +1,5 @@
 -- What is asked of a case of a bundle, once its records have no fault: of its flux, its interval and its verdict.
-use Rattle.std.specs.Prelude.{◌≡◌, ◌↔◌, ℕ, ◌*◌, ◌^◌, ℤ, pos, ◌-ℤ◌, ◌≤ℤ◌, All}
+use Rattle.std.specs.Prelude.{◌≡◌, ◌↔◌, ℕ, ◌*◌, ◌^◌, ◌≤◌, ℤ, pos, ◌-ℤ◌, ◌≤ℤ◌, All}
 use Rattle.tb_detail.specs.declared.Detail.{Detail}
 use Rattle.tb_model.specs.Energy as model
 use Rattle.tb_model.specs.Energy.{IsBalanced, flux_terms, lower_end, rounded_up, upper_end}
@@ -10,8 +10,10 @@ use Rattle.tb_model.specs.Values.{case_of}
 use Rattle.tb_geometry.specs.Faults.{IsAccepted}
 use Rattle.tb_geometry.specs.Grids.{CarriesBody, mesh_on}
 use Rattle.tb_terms.specs.declared.Interval.{Interval}
-use Rattle.tb_field.specs.Fields.{field_on}
-use Rattle.tb_flux.specs.Fluxes.{flux_on}
+use Rattle.tb_grid.specs.Grid.{counts_of}
+use Rattle.tb_field.specs.Fields.{AreTemperatures, FitsNodes, field_on}
+use Rattle.tb_flux.specs.Fluxes.{AreFlows, FitsFaces, flux_on}
+use Rattle.tb_case_records.specs.Limits.{IsEnd}
 use Rattle.tb_case_records.specs.declared.case.CaseProof.{CaseProof}
 use Rattle.tb_case_records.specs.declared.ends.Verdict.TheVariants.{Done}
 use Rattle.tb_bundle.specs.declared.bundle.Bundle.{Bundle}
@@ -52,6 +54,18 @@ IsNarrow c = (c.interval.hi -ℤ c.interval.lo) ≤ℤ pos (c.width * 10 ^ 9)
 -- the verdict says whether it is
 abbrev pub IsJudgedRightly : CaseProof → Type 0
 IsJudgedRightly c = (c.verdict ≡ Done) ↔ IsNarrow c
+
+-- what is read of a case lets it be judged: its grid carries the body, its values are one for each node and face, and all is
+-- within limits
+pub record IsJudgeable (d : Detail) (c : CaseProof) : Type 0 where
+  pub carries : CarriesBody c.grid d
+  pub nodes : FitsNodes (counts_of c.grid) c.field
+  pub temperatures : AreTemperatures c.field
+  pub faces : FitsFaces (counts_of c.grid) c.flux
+  pub flows : AreFlows c.flux
+  pub low_end : IsEnd c.interval.lo
+  pub high_end : IsEnd c.interval.hi
+  pub width : c.width ≤ 10 ^ 9
 
 -- A case without a fault: its interval is that of its field and its flux, which is balanced. So the interval is sound:
 -- on every refinement of the body each field has an energy of at least the lower end, and each balanced flux a bound of

@@ -1,0 +1,6 @@
+pub mod Judged
+pub mod Carried
+pub mod Turns
+pub mod Cases
+pub mod Whole
+pub mod Certified

@@ -1,0 +1,12 @@
+//! The checker of bundles: which bundles have no fault, and the first fault of the others.
+#![tactic(auto)]
+
+mod checked;
+mod checking;
+mod fault;
+mod judge;
+mod stub;
+
+pub use checked::Checked;
+pub use checking::check;
+pub use fault::{CheckFault, CheckRefusal};
