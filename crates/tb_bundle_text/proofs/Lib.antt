@@ -1,0 +1,11 @@
+pub mod AxisBack
+pub mod CaseBack
+pub mod CasePlain
+pub mod CasesBack
+pub mod GridRows
+pub mod LastBack
+pub mod Marks
+pub mod Meeting
+pub mod Plain
+pub mod RowsBack
+pub mod WholeBack
