@@ -17,15 +17,15 @@ use Rattle.tb_canonical.proofs.FieldReading.{most_small}
 not_special : (c : ℕ) → (c == 44) ≡ false → (c == 34) ≡ false → (c == 13) ≡ false → (c == 10) ≡ false → not (is_special c) ≡ true
 not_special c h k l m = rw (h, k, l, m) refl
 
-each_plain : {P : ℕ → Type 0} → ((c : ℕ) → P c → not (is_special c) ≡ true) → (text : List ℕ) → All P text → is_plain text ≡ true
+pub each_plain : {P : ℕ → Type 0} → ((c : ℕ) → P c → not (is_special c) ≡ true) → (text : List ℕ) → All P text → is_plain text ≡ true
 each_plain h [] a = refl
 each_plain {P} h (c ∷ text) a = rw (h c (All-head P c text a), each_plain h text (All-tail P c text a)) refl
 
-decimal_byte : (c : ℕ) → IsDecimalByte c → not (is_special c) ≡ true
+pub decimal_byte : (c : ℕ) → IsDecimalByte c → not (is_special c) ≡ true
 decimal_byte c (inl r) = not_special c (ne_eqb c 44 (λ e. omega arith)) (ne_eqb c 34 (λ e. omega arith)) (ne_eqb c 13 (λ e. omega arith)) (ne_eqb c 10 (λ e. omega arith))
 decimal_byte c (inr e) = rw e refl
 
-signed_byte : (c : ℕ) → IsSignedDecimalByte c → not (is_special c) ≡ true
+pub signed_byte : (c : ℕ) → IsSignedDecimalByte c → not (is_special c) ≡ true
 signed_byte c (inl d) = decimal_byte c d
 signed_byte c (inr e) = rw e refl
 

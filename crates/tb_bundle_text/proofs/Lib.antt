@@ -1,0 +1,16 @@
+pub mod AxisBack
+pub mod BundleText
+pub mod CaseBack
+pub mod CasePlain
+pub mod CasesBack
+pub mod CaseText
+pub mod CaseWords
+pub mod GridRows
+pub mod Joined
+pub mod LastBack
+pub mod Marks
+pub mod Meeting
+pub mod Plain
+pub mod RowsBack
+pub mod ValueTexts
+pub mod WholeBack
