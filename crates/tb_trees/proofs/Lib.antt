@@ -1,2 +1,3 @@
 pub mod Air
 pub mod Filled
+pub mod Passable
