@@ -12,7 +12,9 @@ use Rattle.tb_places.specs.declared.AxisName.{AxisName}
 use Rattle.tb_places.specs.declared.AxisName.TheVariants.{X, Y, Z}
 use Rattle.tb_places.specs.declared.Place.{Place}
 use Rattle.tb_places.specs.Inverse.{cell_place}
-use Rattle.tb_places.specs.Places.{Counts, cell_count, cell_number}
+use Rattle.tb_places.specs.Places.{Counts, by_axis, cell_count, cell_number}
+use Rattle.tb_places.proofs.ByAxis.{same_by_axis}
+use Rattle.tb_grid.specs.Axis.{interval_count}
 use Rattle.tb_places.proofs.Cells.{cell_number_below, cell_place_of_number}
 use Rattle.tb_grid.specs.Grid.{Axes, counts_of}
 use Rattle.tb_model.specs.Faults.{IsSolid}
@@ -68,3 +70,17 @@ told_all d g flags k accepted carries all told = record {
       let here = told.each (cell_number (counts_of g) p) (omega arith) in
       subst (λ (q : Place). (flag_at (counts_of g) flags p ≡ true) ↔ IsSolid (mesh_on d g) q) (cell_place_of_number (counts_of g) p cell) here;
 }
+
+-- the counts of a grid, as a program reads them, are those of the mesh
+pub counts_read : (d : Detail) (g : Axes) (x y z : ℕ) → x ≡ interval_count g.x → y ≡ interval_count g.y → z ≡ interval_count g.z →
+    by_axis x y z ≡ (mesh_on d g).cells
+counts_read d g x y z on_x on_y on_z = same_by_axis (mesh_on d g).cells x y z on_x on_y on_z
+
+pub mesh_counts : (d : Detail) (g : Axes) → counts_of g ≡ (mesh_on d g).cells
+mesh_counts d g = counts_read d g (interval_count g.x) (interval_count g.y) (interval_count g.z) refl refl refl
+
+pub marks_read : (d : Detail) (g : Axes) (flags slice : List Bool) → slice ≡ flags → MarkSolids (counts_of g) (mesh_on d g) flags →
+    MarkSolids (mesh_on d g).cells (mesh_on d g) slice
+marks_read d g flags slice same marks =
+    subst (λ (all : List Bool). MarkSolids (mesh_on d g).cells (mesh_on d g) all) (sym same)
+    (subst (λ (n : Counts). MarkSolids n (mesh_on d g) flags) (mesh_counts d g) marks)

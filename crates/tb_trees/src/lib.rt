@@ -4,5 +4,7 @@
 mod flags;
 pub mod laws;
 mod memory;
+mod tree;
 
 pub use memory::NoMemory;
+pub use tree::OutletTree;
