@@ -6,5 +6,6 @@
 
 mod repair_work;
 
+pub use repair_work::{RepairWork, repair};
 
 pub use tb_trees::NoMemory;

@@ -84,6 +84,13 @@ impl OutletTree {
             passable,
         })
     }
+    /// The number of the grid's faces.
+    pub fn faces(&self) -> u32
+        ensures { result ≡ face_count (counts_of self.now.grid) }
+    {
+        self.counts.faces()
+    }
+
     /// The distance of a cell from the root of its linked set: 1 of the root's cell, 0 of an air cell.
     pub fn distance(&self, cell: CellId) -> u32
         requires { cell.0 < cell_count (counts_of self.now.grid) }
