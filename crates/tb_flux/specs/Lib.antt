@@ -1,1 +1,2 @@
 pub mod Fluxes
+pub mod Lending

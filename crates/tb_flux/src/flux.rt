@@ -43,6 +43,9 @@ impl PartialEq for Flux {
 }
 
 impl Flux {
+    ghost use Rattle.std.specs.Borrow.{sem};
+    ghost use Rattle.tb_flux.specs.Lending.{LendsFlows};
+
     /// The flux that is 0 at each face of a grid.
     ///
     /// # Errors
@@ -66,6 +69,14 @@ impl Flux {
         ensures { result.now ≡ self.now }
     {
         self.values.as_slice()
+    }
+
+    /// The flows, in the index order of faces, to be changed.
+    pub fn values_mut(&mut self) -> &mut [i64]
+        ensures* lends { sem 𝓛 (LendsFlows self.entry result) }
+        ensures value { result.now ≡ self.old }
+    {
+        self.values.as_mut_slice()
     }
 
     /// The flow through a face.

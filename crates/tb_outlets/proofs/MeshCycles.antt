@@ -35,12 +35,12 @@ use Rattle.tb_outlets.proofs.Trees.{no_surface_between, one_distance, tree}
 
 -- ---- the way of outlets
 
-same_number : (n : Counts) (c d : ℕ) → cell_place n c ≡ cell_place n d → c ≡ d
+pub same_number : (n : Counts) (c d : ℕ) → cell_place n c ≡ cell_place n d → c ≡ d
 same_number n c d same =
     sym (cell_number_of_place n c) ∙ ap (cell_number n) same ∙ cell_number_of_place n d
 
 -- another cell with the face on a side of c lies beyond it
-beyond_face : (m : Mesh) (c d : ℕ) (s t : Side) → IsSolidAt m c → IsSolidAt m d → d ≢ c → face_of m.cells d s ≡ face_of m.cells c t →
+pub beyond_face : (m : Mesh) (c d : ℕ) (s t : Side) → IsSolidAt m c → IsSolidAt m d → d ≢ c → face_of m.cells d s ≡ face_of m.cells c t →
     IsBeyond t (cell_place m.cells c) (cell_place m.cells d)
 beyond_face m c d s t here there other same =
     face_between m.cells (cell_place m.cells d) (cell_place m.cells c) s t there.1.0 here.1.0 (λ e. other (same_number m.cells d c e)) same
@@ -53,11 +53,11 @@ on_one m c d s t here there surface same = ⊎_elim
     (λ (other : d ≢ c). absurd (no_surface_between m t (cell_place m.cells c) (cell_place m.cells d) (beyond_face m c d s t here there other same) here.1 there.1 surface))
     (cases_eq d c)
 
-meets_at : (n : Counts) (s : Side) (p q : Place) → IsBeyond s p q → number_on n (opposite s) q ≡ number_on n s p
+pub meets_at : (n : Counts) (s : Side) (p q : Place) → IsBeyond s p q → number_on n (opposite s) q ≡ number_on n s p
 meets_at n (Low a) p q beyond = ap (face_number n a) beyond
 meets_at n (High a) p q beyond = ap (face_number n a) (sym beyond)
 
-leads_to : (m : Mesh) (outlet : ℕ → Side) (c : ℕ) → IsSolidAt m c → (leads : LeadsNearer m (cell_place m.cells c) (outlet c)) →
+pub leads_to : (m : Mesh) (outlet : ℕ → Side) (c : ℕ) → IsSolidAt m c → (leads : LeadsNearer m (cell_place m.cells c) (outlet c)) →
     let q = leads.next in LeadsTo (face_of m.cells) (IsSolidAt m) outlet c (cell_number m.cells q)
 leads_to m outlet c here leads =
     let n = m.cells in
@@ -106,7 +106,7 @@ outward m outlet distance outlets distances (suc k) c here near = ⊎_elim
 abbrev pub entering : Mesh → ℕ → Side → List ℤ
 entering m c s = slice_set (replicate (face_count m.cells) (pos 0)) (face_of m.cells c s) (neg_ℤ (out s))
 
-none_flows : (n f : ℕ) → flow (replicate n (pos 0)) f ≡ pos 0
+pub none_flows : (n f : ℕ) → flow (replicate n (pos 0)) f ≡ pos 0
 none_flows zero f = refl
 none_flows (suc n) zero = refl
 none_flows (suc n) (suc f) = none_flows n f

@@ -23,7 +23,7 @@ path_in inside inside' cells p [] q same = same
 path_in inside inside' cells p (c ∷ cs) q (shared, here, rest) = (shared, cells c here, path_in inside inside' cells c cs q rest)
 
 -- a path from a cell of the set ends in the set
-exit_in_set : (inside : Place → Type 0) (p : Place) (path : List Place) (q : Place) → inside p → IsPath inside p path q → inside q
+pub exit_in_set : (inside : Place → Type 0) (p : Place) (path : List Place) (q : Place) → inside p → IsPath inside p path q → inside q
 exit_in_set inside p [] q here same = subst inside same here
 exit_in_set inside p (c ∷ cs) q here (shared, next, rest) = exit_in_set inside c cs q next rest
 

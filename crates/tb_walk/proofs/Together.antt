@@ -13,8 +13,8 @@ use Rattle.tb_model.specs.Mesh.{Mesh}
 use Rattle.tb_model.specs.Faults.{IsSolid}
 use Rattle.tb_walk.specs.Paths.{IsEnclosed, SharesFace}
 use Rattle.tb_walk.specs.Marks.{flag_at, IsMarked, HasOpening, IsWithoutOpening}
-use Rattle.tb_walk.specs.Isolated.{IsFilled, IsIsolated, IsFirstIsolated, IsSolidCell, HasSurface}
-use Rattle.tb_walk.proofs.Meshes.{surface_at_air}
+use Rattle.tb_walk.specs.Isolated.{IsFilled, IsIsolated, IsFirstIsolated, IsSolidCell, HasSurface, NoneIsolated, ReachesSurface}
+use Rattle.tb_walk.proofs.Meshes.{is_of_solid, not_solid, surface_at_air}
 use Rattle.tb_places.specs.Places.{place_at}
 use Rattle.tb_walk.proofs.Sets.{shares_back, further_out}
 
@@ -108,3 +108,34 @@ first_at_corner m p filled is =
     (λ (l : cell_number m.cells corner < cell_number m.cells p). absurd (there.no_way (is.before corner there.in_set l)))
     (λ (l : cell_number m.cells p ≤ cell_number m.cells corner). omega arith)
     (cases_lt (cell_number m.cells corner) (cell_number m.cells p)))
+
+-- ---- where there is air
+
+-- from a cell, if it is solid, a way leads to a surface
+LeadsOut : Mesh → Place → Type 0
+LeadsOut m p = IsSolid m p → ReachesSurface m p
+
+ways_pass : (m : Mesh) → IsFilled m → Passes m.cells (LeadsOut m)
+unfolding Passes LeadsOut
+ways_pass m filled p q from to shared way solid = on_content (m.occupant p.i p.j p.k) refl
+  where
+    on_content : (o : Option Content) → m.occupant p.i p.j p.k ≡ o → ReachesSurface m q
+    on_content (Some (Solid n)) is =
+        let here : IsSolid m p = record { material = n; fills = is } in
+        further_out (IsSolidCell m) (HasSurface m) q p (shares_back p q shared) (from, here) (way here)
+    on_content (Some (Air e rs)) is = record {
+      path = [];
+      exit = q;
+      leads = refl;
+      is_open = surface_at_air m q p (shares_back p q shared) (to, solid) from (record { environment = e; resistance = rs; fills = is });
+    }
+    on_content None is = absurd (filled p from is)
+
+-- an air cell leads each solid part to a surface
+pub none_isolated : (m : Mesh) (q : Place) (environment rs : ℕ) → IsFilled m → IsCell m.cells q →
+    m.occupant q.i q.j q.k ≡ Some (Air environment rs) → NoneIsolated m
+unfolding LeadsOut
+none_isolated m q environment rs filled cell air p here =
+    let first : LeadsOut m q = λ solid. absurd (not_solid _ (record { environment = environment; resistance = rs; fills = air }) (is_of_solid m q solid)) in
+    let there : LeadsOut m p = everywhere m.cells (LeadsOut m) (ways_pass m filled) q p cell here.0 first in
+    there here.1

@@ -3,9 +3,10 @@
 //! Each law is the contract of a function that does nothing; the lemma behind a clause is in `proofs/`,
 //! where crates above cite it.
 
-ghost use Rattle.std.specs.Prelude.{◌≡◌, ◌↔◌, List, Bool};
+ghost use Rattle.std.specs.Prelude.{◌≡◌, ◌↔◌, ℕ, List, Bool, Some};
 ghost use Rattle.tb_places.specs.declared.Place.{Place};
 ghost use Rattle.tb_places.specs.Places.{Counts, IsCell, place_at};
+ghost use Rattle.tb_detail.specs.declared.Content.TheVariants.{Air};
 ghost use Rattle.tb_model.specs.Faults.{IsSolid};
 ghost use Rattle.tb_model.specs.Mesh.{Mesh};
 ghost use Rattle.tb_walk.specs.Marks.{AllReachOpenings, HasOpening, IsFirstWithoutOpening, IsMarked, IsWithoutOpening};
@@ -31,4 +32,10 @@ pub fn enclosed_cells_fill_the_grid()
     ensures solid { (m : Mesh) (p q : Place) → IsFilled m → IsIsolated m p
         → IsCell m.cells q → IsSolid m q }
     ensures first { (m : Mesh) (p : Place) → IsFilled m → IsFirstIsolated m p → p ≡ place_at 0 0 0 }
+{}
+
+/// One air cell leads every solid part to a surface: in a mesh without empty cells that has one, no solid is isolated.
+pub fn air_is_reached_from_everywhere()
+    ensures { (m : Mesh) (q : Place) (environment rs : ℕ) → IsFilled m → IsCell m.cells q
+        → m.occupant q.i q.j q.k ≡ Some (Air environment rs) → NoneIsolated m }
 {}

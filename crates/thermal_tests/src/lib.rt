@@ -9,4 +9,6 @@ mod faults;
 #[cfg(test)]
 mod grids;
 #[cfg(test)]
+mod repairs;
+#[cfg(test)]
 mod walls;

@@ -12,7 +12,7 @@ use tb_sums::{are_temperatures, upper_end};
 use tb_text::read_detail;
 
 // 1 m² of 200 mm, and the same with its surface resistances exchanged.
-const WALL: &[u8] =
+pub(crate) const WALL: &[u8] =
     b"detail,1,3\nenv,inside\nenv,outside\nmat,wall,1\nsolid,wall,0.1,200.1,0,1000,0,1000\n\
 air,inside,0.13,0,0.1,0,1000,0,1000\nair,outside,0.04,200.1,200.2,0,1000,0,1000\n";
 
@@ -21,7 +21,7 @@ const TURNED: &[u8] =
 air,inside,0.04,0,0.1,0,1000,0,1000\nair,outside,0.13,200.1,200.2,0,1000,0,1000\n";
 
 // Two arms of two materials round an inner corner, with two outer surfaces that differ.
-const CORNER: &[u8] =
+pub(crate) const CORNER: &[u8] =
     b"detail,1,2\nenv,inside\nenv,outside\nmat,stone,2\nmat,wool,0.04\nsolid,stone,1,11,1,4\n\
 solid,wool,1,5,4,14\nair,inside,0.13,5,11,4,14\nair,outside,0.04,0,1,0,14\nair,outside,0.07,1,11,0,1\n";
 
@@ -58,7 +58,7 @@ const UNBALANCED: [i64; 21] = [
     0, 0, 0, 0, 0, 2702702702, 2702702703, 2702702702, 0, 0, 0, 0, 0, 0, 0, 0, 0, 0, 0, 0, 0,
 ];
 
-fn body(alloc: Global, text: &[u8]) -> Result<Body, Fail>
+pub(crate) fn body(alloc: Global, text: &[u8]) -> Result<Body, Fail>
     requires { length text.now ≤ 1000 }
 {
     match read_detail(alloc, text) {

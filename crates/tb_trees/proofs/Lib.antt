@@ -1,0 +1,4 @@
+pub mod Air
+pub mod Filled
+pub mod Passable
+pub mod Kept
