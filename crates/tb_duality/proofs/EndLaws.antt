@@ -10,7 +10,7 @@ use Rattle.tb_math.proofs.RationalOrder.{≤ℚ-add, ≤ℚ-refl, ≤ℚ-trans}
 use Rattle.tb_math.proofs.RationalProducts.{≤ℚ-neg}
 use Rattle.tb_math.proofs.StrictOrder.{<ℚ-add}
 use Rattle.tb_math.proofs.ReadRationals.{by_reading, reading}
-use Rattle.tb_math.proofs.CeilingLaws.{ceiling-above}
+use Rattle.tb_math.proofs.CeilingLaws.{ceiling-above, floor-int}
 use Rattle.tb_math.proofs.SumsOfCeilings.{rounds-none, rounds-one, rounds-plus}
 use Rattle.tb_model.specs.Mesh.{Mesh}
 use Rattle.tb_model.specs.Energy.{Case, Field, Flux, Terms, IsBalanced, exact, rounded_up, number_of_terms, field_terms, flux_terms, energy, source, bound, upper_end, lower_end}
