@@ -1,10 +1,6 @@
 pub mod Cases
+pub mod Ends
 pub mod Kept
-pub mod Reordering
-pub mod RoundedTerms
-pub mod RoundedUp
-pub mod Runs
-pub mod Grids
-pub mod Filled
 pub mod Meets
-pub mod Sums
+pub mod RoundedTerms
+pub mod Runs

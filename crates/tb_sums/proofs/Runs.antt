@@ -5,10 +5,10 @@ use Rattle.tb_math.specs.Sums.{total_ℤ}
 use Rattle.tb_geometry.specs.declared.occupant.Occupant.{Occupant}
 use Rattle.tb_sums.specs.declared.cell.Corners.{Corners}
 use Rattle.tb_sums.specs.declared.row.Row.{Row}
-use Rattle.tb_sums.specs.declared.run.Run.{Run}
+use Rattle.tb_rows.specs.declared.run.Run.{Run}
 use Rattle.tb_sums.specs.Corners.{solid_up}
 use Rattle.tb_sums.specs.NodeRows.{corners_at}
-use Rattle.tb_sums.specs.Runs.{high_at, low_at}
+use Rattle.tb_rows.specs.Runs.{high_at, low_at}
 use Rattle.tb_sums.specs.RunSums.{run_up, solid_at}
 use Rattle.tb_sums.specs.Sides.{sides_x_up, sides_y_up, sides_z_up}
 
