@@ -9,9 +9,13 @@
 
 mod cell;
 mod energy;
+mod flow_row;
 mod interval;
 mod row;
 mod sides;
+mod solid;
+mod surfaces;
 mod terms;
+mod width;
 
 pub use energy::upper_end;

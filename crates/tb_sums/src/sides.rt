@@ -118,7 +118,7 @@ pub fn sides_z(
 
 // Whether an environment is in a case.
 #[inline]
-fn is_inside(mask: u8, environment: u8) -> bool
+pub fn is_inside(mask: u8, environment: u8) -> bool
     ensures { result ≡ case_of mask environment }
 {
     environment < 8 && (mask >> environment) % 2 == 1
