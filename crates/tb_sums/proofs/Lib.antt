@@ -1,8 +1,10 @@
 pub mod Cases
 pub mod Ends
+pub mod FluxMeets
 pub mod Kept
 pub mod LossRuns
 pub mod Meets
 pub mod RoundedTerms
 pub mod Runs
 pub mod Stored
+pub mod WholeTerms

@@ -36,7 +36,7 @@ use Rattle.tb_sums.specs.Sides.{level_of, side_up}
 spreads : (p q r s p' q' r' s' : ℚ) → p ≡ p' → q ≡ q' → r ≡ r' → s ≡ s' → spread p q r s ≡ spread p' q' r' s'
 spreads p q r s p' q' r' s' e f g h = ap (λ t. spread t q r s) e ∙ ap (λ t. spread p' t r s) f ∙ ap (λ t. spread p' q' t s) g ∙ ap (λ t. spread p' q' r' t) h
 
-areas : (b c : ℕ) (B C : ℚ) → int (pos b) ≡ B → int (pos c) ≡ C → int (pos b) *ℚ int (pos c) ≡ B *ℚ C
+pub areas : (b c : ℕ) (B C : ℚ) → int (pos b) ≡ B → int (pos c) ≡ C → int (pos b) *ℚ int (pos c) ≡ B *ℚ C
 areas b c B C e f = ap (λ (q : ℚ). q *ℚ int (pos c)) e ∙ ap (λ (q : ℚ). B *ℚ q) f
 
 cell_meets : (lambda a b c : ℕ) (d00 d10 d01 d11 : ℤ) (A B C e00 e10 e01 e11 : ℚ) → int (pos a) ≡ A → int (pos b) ≡ B → int (pos c) ≡ C →
@@ -75,7 +75,7 @@ one_over_one = refl
 unscaled_width : (n : ℕ) → int (pos n) ≡ int (pos n) *ℚ one_over 1
 unscaled_width n = sym (ap (λ (q : ℚ). int (pos n) *ℚ q) one_over_one ∙ *ℚ_comm (int (pos n)) (int (pos 1)) ∙ *ℚ_one (int (pos n)))
 
-width_meets : (lines : List ℕ) (i w : ℕ) → w ≡ get_or lines (i + 1) 0 - get_or lines i 0 → int (pos w) ≡ ratio (pos (get_or lines (suc i) 0 - get_or lines i 0)) 1
+pub width_meets : (lines : List ℕ) (i w : ℕ) → w ≡ get_or lines (i + 1) 0 - get_or lines i 0 → int (pos w) ≡ ratio (pos (get_or lines (suc i) 0 - get_or lines i 0)) 1
 width_meets lines i w e =
     ap (λ (n : ℕ). int (pos n)) (e ∙ ap (λ (n : ℕ). get_or lines n 0 - get_or lines i 0) (add-one i))
     ∙ unscaled_width (get_or lines (suc i) 0 - get_or lines i 0)
@@ -128,7 +128,7 @@ surface_is n mask rs b c e B C t00 t10 t01 t11 u00 u10 u01 u11 eb ec em h00 h10 
     (excess_meets t01 u01 mask n e h01 em) (excess_meets t11 u11 mask n e h11 em))
 
 -- ---- a cell
-solid_is : (materials : List Material) (o : Option Content) (lambda : ℕ) (v : ℤ) (h : ℕ → ℤ) → Some (Solid lambda) ≡ option_map (filled_with materials) o →
+pub solid_is : (materials : List Material) (o : Option Content) (lambda : ℕ) (v : ℤ) (h : ℕ → ℤ) → Some (Solid lambda) ≡ option_map (filled_with materials) o →
     ((n : ℕ) → lambda ≡ get_or (map (λ m. m.lambda) materials) n 0 → v ≡ h n) → v ≡ of_solid (pos 0) h o
 solid_is materials (Some (content.Solid n)) lambda v h is k = k n (same lambda (get_or (map (λ m. m.lambda) materials) n 0) is)
   where
@@ -143,7 +143,7 @@ solid_is materials None lambda v h is k = absurd (other lambda is)
     other : (a : ℕ) → Some (Solid a) ≡ None → ⊥
     other a e = cc
 
-nine : (cx cy cz lx hx ly hy lz hz ax ay az px qx py qy pz qz : ℤ) → cx ≡ ax → cy ≡ ay → cz ≡ az → lx ≡ px → hx ≡ qx → ly ≡ py → hy ≡ qy → lz ≡ pz → hz ≡ qz →
+pub nine : (cx cy cz lx hx ly hy lz hz ax ay az px qx py qy pz qz : ℤ) → cx ≡ ax → cy ≡ ay → cz ≡ az → lx ≡ px → hx ≡ qx → ly ≡ py → hy ≡ qy → lz ≡ pz → hz ≡ qz →
     (cx +ℤ cy +ℤ cz) +ℤ ((lx +ℤ hx) +ℤ ((ly +ℤ hy) +ℤ (lz +ℤ hz))) ≡ ((ax +ℤ (px +ℤ qx)) +ℤ (ay +ℤ (py +ℤ qy))) +ℤ (az +ℤ (pz +ℤ qz))
 nine cx cy cz lx hx ly hy lz hz ax ay az px qx py qy pz qz e1 e2 e3 e4 e5 e6 e7 e8 e9 = omega (arith, ints)
 

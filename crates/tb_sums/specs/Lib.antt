@@ -1,4 +1,5 @@
 pub mod BodyFields
+pub mod BodyFluxes
 pub mod Corners
 pub mod FlowRows
 pub mod Losses

@@ -10,6 +10,7 @@
 mod cell;
 mod energy;
 mod flow_row;
+mod flux;
 mod interval;
 mod row;
 mod sides;
