@@ -32,8 +32,8 @@ high_within d b limits X = limits.span.x.in_range.high
 high_within d b limits Y = limits.span.y.in_range.high
 high_within d b limits Z = limits.span.z.in_range.high
 
-line_within : (d : Detail) (g : Axes) → InLimits d → CarriesBody g d → (a : AxisName) (p : ℕ) → Contains (lines_of g a) p → p ≤ 500000
-line_within d g limits carries a p there =
+coordinate_within : (d : Detail) (g : Axes) → InLimits d → CarriesBody g d → (a : AxisName) (p : ℕ) → Contains (lines_of g a) p → p ≤ 500000
+coordinate_within d g limits carries a p there =
     let (n, b, within, at, holds) = (spans_along d g carries a).to p there in
     let above : p ≤ high a b = holds in
     let most : high a b ≤ 500000 = high_within d b (subst (λ (box : SpaceBox). BoxInLimits d box) at (limits.boxes n b within)) a in
@@ -49,13 +49,13 @@ width_of_lines lines rising within i l =
 pub width_fits : (d : Detail) (g : Axes) → InLimits d → CarriesBody g d → (a : AxisName) (i : ℕ) → i < counts_of g a → IsWidth (interval_width (lines_of g a) i)
 width_fits d g limits carries a i l =
     let is = counts_are g a in
-    width_of_lines (lines_of g a) (carries.rising a) (line_within d g limits carries a) i (omega (arith, is, l))
+    width_of_lines (lines_of g a) (carries.rising a) (coordinate_within d g limits carries a) i (omega (arith, is, l))
 
 pub widths_fit : (d : Detail) (g : Axes) → InLimits d → CarriesBody g d → AreWidths g.x
 widths_fit d g limits carries =
     record {
       rises = λ i l. never_falls g.x (carries.rising X) i (i + 1) (omega arith) l;
-      each = λ i l. width_of_lines g.x (carries.rising X) (line_within d g limits carries X) i l;
+      each = λ i l. width_of_lines g.x (carries.rising X) (coordinate_within d g limits carries X) i l;
     }
 
 -- ---- base lines
@@ -108,3 +108,7 @@ last_line d base g is base_grid grid carries n to e at =
     let long = (grid.axes X).least in
     let last = (carries_from_refines d base g is base_grid grid carries X).last in
     one_line g.x (carries.rising X) to (length g.x - 1) at.within (omega (arith, long)) (at.stands ∙ ap (λ (m : ℕ). get_or (lines_of base X) m 0) e ∙ sym last)
+
+-- a line's index is at most the number of cells
+pub line_within : (g : Axes) (i : ℕ) → i < length g.x → i ≤ counts_of g X
+line_within g i l = let is = counts_are g X in omega (arith, l, is)

@@ -2,6 +2,8 @@ pub mod Cases
 pub mod Ends
 pub mod FluxMeets
 pub mod Kept
+pub mod Limits
+pub mod LossRises
 pub mod LossRuns
 pub mod Meets
 pub mod RoundedTerms
