@@ -5,10 +5,11 @@ ghost use Rattle.std.specs.Prelude.{◌≤◌, length};
 use crate::grids::{axis, body_of};
 use std::alloc::Global;
 use std::test::Fail;
+use tb_field::Field;
 use tb_flux::Flux;
 use tb_geometry::{Body, Case};
 use tb_grid::{CellId, FaceId, Grid};
-use tb_sums::{are_temperatures, upper_end};
+use tb_sums::upper_end;
 use tb_text::read_detail;
 
 // 1 m² of 200 mm, and the same with its surface resistances exchanged.
@@ -67,6 +68,10 @@ pub(crate) fn body(alloc: Global, text: &[u8]) -> Result<Body, Fail>
     }
 }
 
+fn field(alloc: Global, values: &[i64]) -> Result<Field, Fail> {
+    Ok(Field::from_values(Vec::from_slice(alloc, values)?))
+}
+
 // The wall's grid with a line in its middle.
 fn halved(alloc: Global) -> Result<Grid, Fail> {
     let x = axis(alloc, &[0, 1, 1_001, 2_001, 2_002])?;
@@ -78,18 +83,18 @@ fn halved(alloc: Global) -> Result<Grid, Fail> {
     }
 }
 
-// The upper end of the field with these temperatures on a grid, if they are a field on a grid that carries the body.
-fn upper(body: &Body, grid: &Grid, temperatures: &[i64], mask: u8) -> Option<i128> {
+// The upper end of a field, if it is one on a grid that carries the body.
+fn upper(body: &Body, grid: &Grid, field: &Field, mask: u8) -> Option<i128> {
     if !body.carries(grid) {
         return None;
     }
-    if temperatures.len() != grid.nodes() as usize {
+    if !field.fits(grid) {
         return None;
     }
-    if !are_temperatures(temperatures) {
+    if !field.is_within_limits() {
         return None;
     }
-    Some(upper_end(body, grid, temperatures, Case { mask }))
+    Some(upper_end(body, grid, field, Case { mask }))
 }
 
 // Whether these are the first faults of a flux on a grid that carries the body.
@@ -112,27 +117,38 @@ fn has_faults(
 #[test]
 fn upper_ends_of_a_wall(rt: HostRuntime) -> Result<(), Fail> {
     let wall = body(rt.alloc(), WALL)?;
-    assert!(rt; upper(&wall, wall.base(), &[0; 16], 1) == Some(7692307692307693));
-    assert!(rt; upper(&wall, wall.base(), &FALLING, 1) == Some(2702702702702704));
+    let cold = field(rt.alloc(), &[0; 16])?;
+    assert!(rt; upper(&wall, wall.base(), &cold, 1) == Some(7692307692307693));
+    let falling = field(rt.alloc(), &FALLING)?;
+    assert!(rt; upper(&wall, wall.base(), &falling, 1) == Some(2702702702702704));
+    Ok(())
+}
+
+#[test]
+fn upper_end_of_a_halved_wall(rt: HostRuntime) -> Result<(), Fail> {
+    let wall = body(rt.alloc(), WALL)?;
     let grid = halved(rt.alloc())?;
-    assert!(rt; upper(&wall, &grid, &FALLING_IN_TWO, 1) == Some(2702702702702704));
+    let falling = field(rt.alloc(), &FALLING_IN_TWO)?;
+    assert!(rt; upper(&wall, &grid, &falling, 1) == Some(2702702702702704));
     Ok(())
 }
 
 #[test]
 fn upper_end_of_a_turned_wall(rt: HostRuntime) -> Result<(), Fail> {
     let wall = body(rt.alloc(), TURNED)?;
-    assert!(rt; upper(&wall, wall.base(), &FALLING, 1) == Some(4637017451340115));
+    let falling = field(rt.alloc(), &FALLING)?;
+    assert!(rt; upper(&wall, wall.base(), &falling, 1) == Some(4637017451340115));
     Ok(())
 }
 
 #[test]
 fn upper_ends_of_a_corner(rt: HostRuntime) -> Result<(), Fail> {
     let corner = body(rt.alloc(), CORNER)?;
-    assert!(rt; upper(&corner, corner.base(), &UNEVEN, 0) == Some(2397959356609));
-    assert!(rt; upper(&corner, corner.base(), &UNEVEN, 1) == Some(113478206587379));
-    assert!(rt; upper(&corner, corner.base(), &UNEVEN, 2) == Some(432723567356610));
-    assert!(rt; upper(&corner, corner.base(), &UNEVEN, 3) == Some(543803814587380));
+    let uneven = field(rt.alloc(), &UNEVEN)?;
+    assert!(rt; upper(&corner, corner.base(), &uneven, 0) == Some(2397959356609));
+    assert!(rt; upper(&corner, corner.base(), &uneven, 1) == Some(113478206587379));
+    assert!(rt; upper(&corner, corner.base(), &uneven, 2) == Some(432723567356610));
+    assert!(rt; upper(&corner, corner.base(), &uneven, 3) == Some(543803814587380));
     Ok(())
 }
 
