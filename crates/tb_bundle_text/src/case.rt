@@ -100,8 +100,8 @@ pub fn put_case<K: Sink>(
     put_axis(buffer, sink, &case.grid, AxisName::X);
     put_axis(buffer, sink, &case.grid, AxisName::Y);
     put_axis(buffer, sink, &case.grid, AxisName::Z);
-    put_field(buffer, sink, counts, slice_of(&case.field));
-    put_flux(buffer, sink, counts, slice_of(&case.flux));
+    put_field(buffer, sink, counts, case.field.values());
+    put_flux(buffer, sink, counts, case.flux.values());
     put_ends(buffer, sink, case.interval);
     put_verdict(buffer, sink, case.verdict, case.width);
 }
