@@ -1,8 +1,8 @@
 use Rattle.std.proofs.Common.{◌≡◌, ◌∙◌, arith, pos, to_z}
 use Rattle.std.specs.Int.{w128}
 use Rattle.std.proofs.lemmas.Int.{ints}
-use Rattle.tb_sums.proofs.Ends.{upper_is}
-use Rattle.tb_sums.proofs.energy.upper_end.Goals as goal
+use Rattle.tb_sums.proofs.EndSums.{upper_is}
+use Rattle.tb_sums.proofs.ends.upper_end.Goals as goal
 
 pub returns : goal.returns
 returns c =
