@@ -22,7 +22,8 @@ pub fn upper_end(body: &Body, grid: &Grid, field: &Field, case: Case) -> i128
     requires carries { CarriesBody grid.now body.now }
     requires fits { FitsNodes (counts_of grid.now) field.now }
     requires limits { AreTemperatures field.now }
-    ensures { result ≡ upper_end (mesh_on body.now grid.now) (case_of case.mask) (field_on grid.now field.now) }
+    ensures value { result ≡ upper_end (mesh_on body.now grid.now) (case_of case.mask) (field_on grid.now field.now) }
+    ensures size { unsigned_abs result ≤ 2 ^ 120 }
 {
     let field = BodyField {
         rows: Rows::new(body, grid),
@@ -43,6 +44,7 @@ pub fn lower_end(body: &Body, grid: &Grid, flux: &Flux, case: Case) -> Result<i1
     requires fits { FitsFaces (counts_of grid.now) flux.now }
     requires limits { AreFlows flux.now }
     ensures value { IfOk result (λ end. end ≡ lower_end (mesh_on body.now grid.now) (case_of case.mask) (flux_on grid.now flux.now)) }
+    ensures size { IfOk result (λ end. unsigned_abs end ≤ 2 ^ 121) }
     ensures past_limit { let m = mesh_on body.now grid.now in
         IsErr result ↔ (pos (2 ^ 120) <ℤ rounded_up m (flux_terms m (flux_on grid.now flux.now))) }
 {
@@ -59,7 +61,8 @@ pub fn lower_end(body: &Body, grid: &Grid, flux: &Flux, case: Case) -> Result<i1
 fn source_less(entering: i128, loss: u128) -> i128
     requires entering { unsigned_abs entering ≤ 10 ^ 22 }
     requires loss { loss ≤ 2 ^ 120 }
-    ensures { result ≡ pos (2 * 10 ^ 6) *ℤ entering -ℤ pos loss }
+    ensures value { result ≡ pos (2 * 10 ^ 6) *ℤ entering -ℤ pos loss }
+    ensures size { unsigned_abs result ≤ 2 ^ 121 }
 {
     2_000_000 * entering - loss as i128
 }

@@ -6,6 +6,7 @@ use crate::grids::axis;
 use crate::walls::{STRAIGHT, WALL, body, halved};
 use std::alloc::Global;
 use std::test::Fail;
+use tb_duality::gap;
 use tb_field::Field;
 use tb_flux::Flux;
 use tb_geometry::{Body, Case};
@@ -168,6 +169,26 @@ fn lower(body: &Body, grid: &Grid, flux: &Flux, mask: u8) -> Option<Result<i128,
     Some(lower_end(body, grid, flux, Case { mask }))
 }
 
+// What lies between the ends of a field and of a flux, each on a grid of its own, if they are such.
+fn between(
+    body: &Body,
+    field_grid: &Grid,
+    field: &Field,
+    flux_grid: &Grid,
+    flux: &Flux,
+) -> Option<Result<i128, PastLimit>> {
+    if !body.carries(field_grid) || !body.carries(flux_grid) {
+        return None;
+    }
+    if !field.fits(field_grid) || !field.is_within_limits() {
+        return None;
+    }
+    if !flux.fits(flux_grid) || !flux.is_within_limits() {
+        return None;
+    }
+    Some(gap(body, field_grid, field, flux_grid, flux, Case { mask: 1 }))
+}
+
 // The grid of a strip with these lines across y.
 fn strip_grid(alloc: Global, layers: &[u32]) -> Result<Grid, Fail>
     requires { length layers.now ≤ 100 }
@@ -307,5 +328,16 @@ fn lower_ends_of_a_cube(rt: HostRuntime) -> Result<(), Fail> {
     assert!(rt; lower(&cube, cube.base(), &uneven, 2) == Some(Ok(-163748350443928320545777)));
     assert!(rt; lower(&cube, cube.base(), &uneven, 4) == Some(Ok(-163748295785764346545777)));
     assert!(rt; lower(&cube, cube.base(), &uneven, 6) == Some(Ok(-163748181929422778545777)));
+    Ok(())
+}
+
+#[test]
+fn gaps_on_two_grids(rt: HostRuntime) -> Result<(), Fail> {
+    let wall = body(rt.alloc(), WALL)?;
+    let grid = halved(rt.alloc())?;
+    let falling = field(rt.alloc(), &FALLING)?;
+    let straight = flux(rt.alloc(), &STRAIGHT_IN_TWO)?;
+    let base = wall.base();
+    assert!(rt; between(&wall, base, &falling, &grid, &straight) == Some(Ok(5)));
     Ok(())
 }

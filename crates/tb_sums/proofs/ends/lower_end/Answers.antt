@@ -10,7 +10,7 @@ returns-clause-value c =
     let f : BodyFlux = record { rows = c.new.result; flows = c.values.result; case = c.args.case } in
     let stored : to_z w128 (of_z w128 c.source_less.result) ≡ c.source_less.result = search rules in
     let entering : to_z w128 (of_z w128 c.entering.result) ≡ c.entering.result = search rules in
-    stored ∙ c.source_less.ensures ∙ ap (λ (z : ℤ). pos 2000000 *ℤ z -ℤ pos c.in_ok-loss.loss) entering
+    stored ∙ c.source_less.ensures.value ∙ ap (λ (z : ℤ). pos 2000000 *ℤ z -ℤ pos c.in_ok-loss.loss) entering
     ∙ lower_is f c.args.body.now c.args.grid.now c.args.flux.now c.entering.result c.in_ok-loss.loss c.new.ensures.body c.new.ensures.grid c.values.ensures
     c.entering.ensures.value c.in_ok-loss.ensures.value
 
