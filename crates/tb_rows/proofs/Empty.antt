@@ -1,5 +1,5 @@
 -- Cells of which none is solid add nothing.
-use Rattle.std.proofs.Common.{◌≡◌, ◌≢◌, refl, sym, ◌∙◌, ℕ, ◌+◌, ◌-◌, ◌<◌, ◌≤◌, List, Option, Some, None, ℤ, pos, arith}
+use Rattle.std.proofs.Common.{◌≡◌, ◌≢◌, refl, sym, ◌∙◌, ℕ, ◌+◌, ◌-◌, ◌<◌, List, Option, Some, None, ℤ, pos, arith}
 use Rattle.std.specs.Option.{option_map}
 use Rattle.tb_math.proofs.SumInstances.{adds_ℤ}
 use Rattle.tb_math.proofs.SumLaws.{sum-cong, sum-none}
@@ -8,7 +8,6 @@ use Rattle.tb_detail.specs.declared.Content.TheVariants as content
 use Rattle.tb_detail.specs.declared.Material.{Material}
 use Rattle.tb_model.specs.Energy.{Terms, of_solid}
 use Rattle.tb_geometry.specs.Bodies.{filled_with}
-use Rattle.tb_geometry.specs.declared.occupant.Occupant.{Occupant}
 use Rattle.tb_geometry.specs.declared.occupant.Occupant.TheVariants.{Solid}
 use Rattle.tb_rows.specs.declared.rows.Rows.{Rows}
 use Rattle.tb_rows.specs.Rows.{HasNoSolid, mesh_under}

@@ -1,5 +1,5 @@
 -- The numbers of a cell of a run meet the terms of the model, of a flux.
-use Rattle.std.proofs.Common.{◌≡◌, refl, sym, ap, ◌∙◌, ℕ, suc, ◌+◌, ◌-◌, ◌<◌, ◌≤◌, List, get_or, Option, Some, None, Bool, true, false, if◌then◌else◌, ℤ, pos, neg_ℤ, ◌+ℤ◌, ◌-ℤ◌, arith, add-one}
+use Rattle.std.proofs.Common.{◌≡◌, sym, ap, ◌∙◌, ℕ, suc, ◌+◌, ◌-◌, ◌<◌, ◌≤◌, List, get_or, Option, Some, None, Bool, true, false, if◌then◌else◌, ℤ, pos, neg_ℤ, ◌+ℤ◌, ◌-ℤ◌, arith, add-one}
 use Rattle.std.specs.Option.{option_map}
 use Rattle.std.proofs.lemmas.Int.{ints}
 use Rattle.tb_math.specs.Rational.{ℚ, int, ◌*ℚ◌, neg_ℚ}
@@ -8,7 +8,6 @@ use Rattle.tb_math.proofs.CeilingLaws.{ceiling-int}
 use Rattle.tb_math.proofs.RationalLaws.{int-neg}
 use Rattle.tb_math.proofs.SumInstances.{adds_ℤ}
 use Rattle.tb_math.proofs.SumLaws.{sum-cong}
-use Rattle.tb_places.specs.declared.AxisName.{AxisName}
 use Rattle.tb_places.specs.declared.AxisName.TheVariants.{X, Y, Z}
 use Rattle.tb_detail.specs.declared.Content.{Content}
 use Rattle.tb_detail.specs.declared.Content.TheVariants as content

@@ -1,5 +1,5 @@
 pub mod Cases
-pub mod Ends
+pub mod EndSums
 pub mod FluxMeets
 pub mod Kept
 pub mod Limits

@@ -1,6 +1,6 @@
 -- Where a sum up to a row passes the limit, the whole does.
 use Rattle.std.specs.Prelude.{Result, Ok, Err, OnErr}
-use Rattle.std.proofs.Common.{◌≡◌, ℕ, ◌+◌, ◌^◌, ◌<◌, ℤ, pos, ◌+ℤ◌, ◌≤ℤ◌, ◌<ℤ◌, arith}
+use Rattle.std.proofs.Common.{◌≡◌, ℕ, ◌+◌, ◌^◌, ◌<◌, ◌≤◌, ℤ, pos, ◌+ℤ◌, ◌≤ℤ◌, ◌<ℤ◌, arith}
 use Rattle.std.proofs.lemmas.Int.{ints}
 use Rattle.tb_places.specs.declared.AxisName.TheVariants.{X, Y, Z}
 use Rattle.tb_model.specs.Energy.{Terms, rounded_up}
@@ -35,3 +35,6 @@ still total old layer whole e past l = omega (arith, ints)
 pub past_in_layers : (m : Mesh) (t : Terms) → Rises m t → (k total : ℕ) → k < m.cells Z → pos total ≡ layers_up m t k →
     pos (2 ^ 120) <ℤ (pos total +ℤ rows_up m t k (m.cells Y)) → pos (2 ^ 120) <ℤ rounded_up m t
 past_in_layers m t rises k total lk e past = still total _ _ _ e past (layers_part m t rises k lk)
+
+pub not_past : (loss : ℕ) (whole : ℤ) → loss ≤ 2 ^ 120 → pos loss ≡ whole → pos (2 ^ 120) <ℤ whole → ⊥
+not_past loss whole l e past = absurd (omega (arith, ints, l, e, past))

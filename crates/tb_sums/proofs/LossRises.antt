@@ -1,6 +1,6 @@
 -- No cell takes anything away from a loss.
-use Rattle.std.specs.Prelude.{IfSome, unsigned_abs}
-use Rattle.std.proofs.Common.{◌≡◌, refl, sym, ap, subst, ◌∙◌, ℕ, zero, suc, ◌*◌, ◌^◌, ◌<◌, ◌≤◌, List, [], ◌∷◌, get_or, map, Option, Some, None, true, false, ℤ, pos, ◌+ℤ◌, ◌≤ℤ◌, arith}
+use Rattle.std.specs.Prelude.{IfSome}
+use Rattle.std.proofs.Common.{◌≡◌, refl, subst, ℕ, zero, suc, ◌<◌, List, [], ◌∷◌, get_or, map, Option, Some, None, ℤ, pos, ◌+ℤ◌, ◌≤ℤ◌, arith}
 use Rattle.std.specs.List.{All}
 use Rattle.std.specs.Option.{option_map}
 use Rattle.std.proofs.lemmas.Int.{ints}
@@ -8,7 +8,6 @@ use Rattle.std.proofs.lemmas.List.Elements.{All-head, All-tail}
 use Rattle.tb_math.specs.Rational.{ℚ, int, ◌*ℚ◌, ◌≤ℚ◌}
 use Rattle.tb_math.specs.Ceiling.{ceiling}
 use Rattle.tb_math.proofs.CeilingLaws.{ceiling-nonneg}
-use Rattle.tb_places.specs.declared.AxisName.{AxisName}
 use Rattle.tb_places.specs.declared.AxisName.TheVariants.{X, Y, Z}
 use Rattle.tb_places.specs.Places.{place_at}
 use Rattle.tb_detail.specs.declared.Content.{Content}
@@ -30,7 +29,6 @@ use Rattle.tb_rows.proofs.Filled.{above_fits, below_fits, occupant_fits}
 use Rattle.tb_rows.proofs.Grids.{width_fits}
 use Rattle.tb_rows.proofs.Sums.{Rises}
 use Rattle.tb_sums.specs.declared.flux.BodyFlux.{BodyFlux}
-use Rattle.tb_sums.specs.declared.solid.Through.{Through}
 use Rattle.tb_sums.specs.BodyFluxes.{IsBodyFlux, flow_at, loss_under}
 use Rattle.tb_sums.specs.Losses.{loss_cell, loss_face}
 use Rattle.tb_sums.proofs.FluxMeets.{cell_loss_meets, face_loss_meets}

@@ -7,7 +7,6 @@ use Rattle.tb_rows.specs.declared.run.Run.{Run}
 use Rattle.tb_rows.specs.Runs.{high_at, low_at}
 use Rattle.tb_sums.specs.declared.flow_row.FlowRow.{FlowRow}
 use Rattle.tb_sums.specs.declared.solid.CellFlows.{CellFlows}
-use Rattle.tb_sums.specs.declared.solid.SolidCell.{SolidCell}
 use Rattle.tb_sums.specs.FlowRows.{flows_at}
 use Rattle.tb_sums.specs.Losses.{sides_entered, sides_loss_up, solid_loss_up}
 use Rattle.tb_sums.specs.LossSums.{entered_at, loss_at, run_entered, run_loss}

@@ -4,18 +4,13 @@ ghost use Rattle.tb_places.specs.declared.AxisName.TheVariants.{X, Y, Z};
 ghost use Rattle.tb_grid.specs.Axis.{IsLineAt};
 ghost use Rattle.tb_grid.specs.Grid.{counts_of};
 ghost use Rattle.tb_geometry.specs.Base.{base_counts, base_lines};
-ghost use Rattle.tb_geometry.specs.Grids.{CarriesBody, mesh_on};
-ghost use Rattle.tb_model.specs.Energy.{upper_end};
-ghost use Rattle.tb_model.specs.Values.{case_of};
-ghost use Rattle.tb_field.specs.Fields.{AreTemperatures, FitsNodes, field_on};
 ghost use Rattle.tb_rows.specs.Rows.{IsAround, mesh_under};
 ghost use Rattle.tb_rows.specs.Sums.{cells_from, cells_up, layers_up, rows_up};
 
 use crate::interval::Interval;
 use crate::row::{NodeRows, Row};
-use tb_field::Field;
-use tb_geometry::{Body, Case};
-use tb_grid::{AxisName, Grid, Place};
+use tb_geometry::Case;
+use tb_grid::{AxisName, Place};
 use tb_rows::{Around, Rows};
 
 /// A field on a grid that carries a body, and a case: one temperature for each node, in 10⁻⁸ of the difference.
@@ -125,8 +120,8 @@ impl<'a> BodyField<'a> {
         total
     }
 
-    // The energy, each term rounded up.
-    fn energy(&self) -> u128
+    /// The energy, each of its terms rounded up.
+    pub fn energy(&self) -> u128
         requires fits { IsBodyField self.now }
         ensures value { pos result ≡ layers_up (mesh_under self.now.rows) (terms_under self.now) (counts_of self.now.rows.grid.now Z) }
         ensures most { result ≤ 1023 * (1023 * (1023 * 10 ^ 26)) }
@@ -137,20 +132,4 @@ impl<'a> BodyField<'a> {
         }
         total
     }
-}
-
-/// The upper end of an interval, in fW/K: the energy of a temperature field on a grid that carries a body, each of its
-/// terms rounded up. It takes no memory, and no sum is too large.
-pub fn upper_end(body: &Body, grid: &Grid, field: &Field, case: Case) -> i128
-    requires carries { CarriesBody grid.now body.now }
-    requires fits { FitsNodes (counts_of grid.now) field.now }
-    requires limits { AreTemperatures field.now }
-    ensures { result ≡ upper_end (mesh_on body.now grid.now) (case_of case.mask) (field_on grid.now field.now) }
-{
-    let field = BodyField {
-        rows: Rows::new(body, grid),
-        temperatures: field.values(),
-        case,
-    };
-    field.energy() as i128
 }

@@ -138,7 +138,11 @@ impl SolidCell {
         ensures most { result ≤ 5 * 10 ^ 34 }
     {
         let Self {
-            lambda, x, y, z, ..
+            lambda,
+            x,
+            y,
+            z,
+            ..
         } = self;
         axis_loss(lambda, x, y, z, self.along_x, flows.x)
     }
@@ -150,7 +154,11 @@ impl SolidCell {
         ensures most { result ≤ 5 * 10 ^ 34 }
     {
         let Self {
-            lambda, x, y, z, ..
+            lambda,
+            x,
+            y,
+            z,
+            ..
         } = self;
         axis_loss(lambda, y, x, z, self.along_y, flows.y)
     }
@@ -162,7 +170,11 @@ impl SolidCell {
         ensures most { result ≤ 5 * 10 ^ 34 }
     {
         let Self {
-            lambda, x, y, z, ..
+            lambda,
+            x,
+            y,
+            z,
+            ..
         } = self;
         axis_loss(lambda, z, x, y, self.along_z, flows.z)
     }

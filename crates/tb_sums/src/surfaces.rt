@@ -101,5 +101,6 @@ pub fn entering(mask: u8, low: Option<Occupant>, high: Option<Occupant>, flows: 
     ensures value { result ≡ sides_entered mask low high flows }
     ensures size { unsigned_abs result ≤ 2 * 10 ^ 12 }
 {
-    i128::from(surface_flow(mask, low, flows.low)) - i128::from(surface_flow(mask, high, flows.high))
+    i128::from(surface_flow(mask, low, flows.low))
+        - i128::from(surface_flow(mask, high, flows.high))
 }

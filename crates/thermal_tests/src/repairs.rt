@@ -3,7 +3,8 @@
 ghost use Rattle.std.specs.Prelude.{◌≤◌, length};
 
 use crate::grids::axis;
-use crate::walls::{CORNER, WALL, body};
+use crate::ends::CORNER;
+use crate::walls::{WALL, body};
 use std::alloc::Global;
 use std::test::Fail;
 use tb_flux::Flux;

@@ -1,4 +1,4 @@
-use Rattle.std.proofs.Common.{◌≡◌, ◌∙◌, ap, ℤ, ◌+ℤ◌, rules, to_z, of_z}
+use Rattle.std.proofs.Common.{◌≡◌, ◌∙◌, rules, to_z, of_z}
 use Rattle.tb_sums.proofs.LossRuns.{entered_of}
 use Rattle.tb_sums.proofs.flow_row.FlowRow.cell_entering.Goals as goal
 use mir.Syntax.{w128}

@@ -1,4 +1,4 @@
-use Rattle.std.proofs.Common.{◌≡◌, ◌∙◌, ◌*◌, ◌^◌, ◌<◌, ◌≤◌, arith, length, to_z}
+use Rattle.std.proofs.Common.{◌*◌, ◌^◌, ◌<◌, ◌≤◌, arith, length, to_z}
 use Rattle.tb_sums.proofs.LossRuns.{entered_start, entered_step}
 use Rattle.tb_sums.proofs.Stored.{IsNextTotal, next_total}
 use Rattle.tb_sums.proofs.flow_row.FlowRow.entering.Goals as goal

@@ -1,4 +1,4 @@
-use Rattle.std.proofs.Common.{◌<◌, arith, rules}
+use Rattle.std.proofs.Common.{◌<◌, rules}
 use Rattle.tb_places.specs.declared.AxisName.TheVariants.{Y}
 use Rattle.tb_grid.specs.Grid.{counts_of}
 use Rattle.tb_rows.specs.Rows.{mesh_under}

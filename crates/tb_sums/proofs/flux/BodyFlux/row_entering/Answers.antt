@@ -1,4 +1,4 @@
-use Rattle.std.proofs.Common.{◌≡◌, ◌∙◌, ℕ, ◌+◌, ◌-◌, ◌*◌, ◌<◌, ◌≤◌, ◌^◌, ap, arith, refl, subst, sym, to_z}
+use Rattle.std.proofs.Common.{◌≡◌, ◌∙◌, ℕ, ◌-◌, ◌*◌, ◌<◌, ◌≤◌, ◌^◌, ap, arith, refl, subst, sym, to_z}
 use Rattle.tb_places.specs.declared.AxisName.TheVariants.{X}
 use Rattle.tb_grid.specs.Grid.{counts_of}
 use Rattle.tb_geometry.specs.Base.{base_axes}

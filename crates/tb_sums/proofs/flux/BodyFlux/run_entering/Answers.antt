@@ -1,6 +1,5 @@
 use Rattle.std.specs.Prelude.{unsigned_abs}
 use Rattle.std.proofs.Common.{◌≡◌, ◌∙◌, ℕ, ◌-◌, ◌*◌, ◌^◌, ◌≤◌, ap, arith, subst, rules, sym, to_z, of_z, ℤ}
-use Rattle.tb_rows.specs.Rows.{mesh_under}
 use Rattle.tb_rows.proofs.Empty.{empty_run}
 use Rattle.tb_sums.specs.BodyFluxes.{entering_under}
 use Rattle.tb_sums.proofs.FluxMeets.{whole_entered_is}
