@@ -6,7 +6,6 @@ mod checking;
 mod fault;
 mod judge;
 mod names;
-mod stub;
 mod texts;
 
 pub use checked::Checked;

@@ -17,3 +17,4 @@ pub mod WholeFlows
 pub mod TermCounts
 pub mod BodyEnds
 pub mod Masks
+pub mod Stored

@@ -2,7 +2,7 @@
 //! temperature field. So every field proves an upper end of the heat flow, and every balanced flux a lower end. Field and
 //! flux may stand on two different refinements of a body ([`refinements`]), among them the grids that carry it ([`bodies`]).
 //!
-//! There is no program here: each function is a law, whose contract is the fact. Temperatures are in 10⁻⁸ of the
+//! Each function is a law, whose contract is the fact, but for [`gap`], the program of the difference of the two ends. Temperatures are in 10⁻⁸ of the
 //! difference and flows in nW per unit difference, so that the product of the two is in 10⁻² fW/K; energies,
 //! losses and bounds are in fW/K.
 //!
@@ -12,6 +12,7 @@
 
 pub mod bodies;
 pub mod complements;
+mod gaps;
 pub mod refinements;
 
 ghost use Rattle.std.specs.Prelude.{◌≡◌, ◌^◌, ◌<◌, ℕ, ℤ, Bool, pos};
@@ -27,6 +28,8 @@ ghost use Rattle.tb_model.specs.Soundness.{IsSoundOn};
 ghost use Rattle.tb_model.specs.Energy.{Case, Field, Flux, IsBalanced, outflow, boundary, field_terms, flux_terms, number_of_terms, energy, source, bound, upper_end, lower_end};
 ghost use Rattle.tb_duality.specs.MeanValues.{face_temperature, mean_difference, mean_flow, carried_off, entering};
 ghost use Rattle.tb_duality.specs.Wall.{wall, warm_inside, wall_field, wall_flux, staying_flux};
+
+pub use gaps::gap;
 
 /// In a balanced cell, the sum over its six faces of outward flow times mean corner temperature is the sum over the
 /// three axes of mean flow times mean difference of temperature.

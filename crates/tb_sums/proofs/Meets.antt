@@ -1,48 +1,42 @@
 -- The numbers of a cell of a run meet the terms of the model.
-use Rattle.std.proofs.Common.{◌≡◌, refl, sym, ap, ◌∙◌, ℕ, suc, ◌+◌, ◌-◌, ◌<◌, ◌≤◌, ◌^◌, ◌⊎◌, inl, inr, List, get_or, map, Option, Some, None, Bool, true, false, if◌then◌else◌, ℤ, pos, ◌+ℤ◌, ◌-ℤ◌, arith, add-one, ◌==◌}
+use Rattle.std.proofs.Common.{◌≡◌, refl, sym, ap, ◌∙◌, ℕ, suc, ◌+◌, ◌-◌, ◌<◌, ◌≤◌, ◌^◌, List, get_or, map, Option, Some, None, Bool, true, false, if◌then◌else◌, ℤ, pos, ◌+ℤ◌, ◌-ℤ◌, arith, add-one}
 use Rattle.std.specs.Option.{option_map}
-use Rattle.std.proofs.lemmas.Bool.Decides.{nat_tests}
 use Rattle.std.proofs.lemmas.Int.{ints}
 use Rattle.tb_math.specs.Rational.{ℚ, int, one_over, ratio, ◌*ℚ◌, ◌-ℚ◌}
 use Rattle.tb_math.specs.Ceiling.{ceiling}
 use Rattle.tb_math.proofs.RationalLaws.{int-difference, *ℚ_comm, *ℚ_one}
 use Rattle.tb_math.proofs.SumInstances.{adds_ℤ}
-use Rattle.tb_math.proofs.SumLaws.{sum-cong, sum-none}
+use Rattle.tb_math.proofs.SumLaws.{sum-cong}
 use Rattle.tb_places.specs.declared.AxisName.TheVariants.{X, Y, Z}
-use Rattle.tb_places.specs.Places.{place_at}
 use Rattle.tb_detail.specs.declared.Content.{Content}
 use Rattle.tb_detail.specs.declared.Content.TheVariants as content
 use Rattle.tb_detail.specs.declared.Material.{Material}
 use Rattle.tb_grid.specs.Grid.{counts_of}
 use Rattle.tb_model.specs.Energy.{boundary, cell_energy, of_solid, spread, surface_energy}
-use Rattle.tb_model.specs.Mesh.{below}
 use Rattle.tb_model.specs.Values.{case_of}
 use Rattle.tb_terms.specs.Terms.{field_cell_term, field_face_term}
 use Rattle.tb_geometry.specs.Bodies.{filled_with}
-use Rattle.tb_geometry.specs.Grids.{mesh_on, occupant_at}
 use Rattle.tb_geometry.specs.declared.occupant.Occupant.{Occupant}
 use Rattle.tb_geometry.specs.declared.occupant.Occupant.TheVariants.{Solid, Air}
 use Rattle.tb_sums.specs.declared.cell.Corners.{Corners}
 use Rattle.tb_sums.specs.declared.energy.BodyField.{BodyField}
 use Rattle.tb_sums.specs.declared.row.Row.{Row}
-use Rattle.tb_sums.specs.declared.run.Run.{Run}
-use Rattle.tb_sums.specs.Around.{filled_above, filled_below}
-use Rattle.tb_sums.specs.BodyFields.{IsRowOf, IsRunOf, cell_up, cells_from, mesh_under, node_at, terms_under}
-use Rattle.tb_sums.specs.Cells.{at_air}
+use Rattle.tb_rows.specs.declared.run.Run.{Run}
+use Rattle.tb_rows.specs.Cells.{at_air}
+use Rattle.tb_rows.specs.Rows.{IsRunOf, IsWholeRun, mesh_under}
+use Rattle.tb_rows.specs.Sums.{cell_up, cells_from}
+use Rattle.tb_rows.proofs.Sides.{high_is, low_is}
+use Rattle.tb_sums.specs.BodyFields.{IsRowOf, node_at, terms_under}
 use Rattle.tb_sums.specs.Corners.{cell_at, face_across, face_at}
 use Rattle.tb_sums.specs.NodeRows.{corners_at}
-use Rattle.tb_sums.specs.Runs.{high_at, low_at}
 use Rattle.tb_sums.specs.RunSums.{run_up, solid_at}
 use Rattle.tb_sums.specs.Sides.{level_of, side_up}
-use Rattle.tb_sums.proofs.Filled.{below_pred}
-use Rattle.tb_sums.proofs.Grids.{counts_are}
-use Rattle.tb_sums.proofs.Reordering.{above_within}
 
 -- ---- terms
 spreads : (p q r s p' q' r' s' : ℚ) → p ≡ p' → q ≡ q' → r ≡ r' → s ≡ s' → spread p q r s ≡ spread p' q' r' s'
 spreads p q r s p' q' r' s' e f g h = ap (λ t. spread t q r s) e ∙ ap (λ t. spread p' t r s) f ∙ ap (λ t. spread p' q' t s) g ∙ ap (λ t. spread p' q' r' t) h
 
-areas : (b c : ℕ) (B C : ℚ) → int (pos b) ≡ B → int (pos c) ≡ C → int (pos b) *ℚ int (pos c) ≡ B *ℚ C
+pub areas : (b c : ℕ) (B C : ℚ) → int (pos b) ≡ B → int (pos c) ≡ C → int (pos b) *ℚ int (pos c) ≡ B *ℚ C
 areas b c B C e f = ap (λ (q : ℚ). q *ℚ int (pos c)) e ∙ ap (λ (q : ℚ). B *ℚ q) f
 
 cell_meets : (lambda a b c : ℕ) (d00 d10 d01 d11 : ℤ) (A B C e00 e10 e01 e11 : ℚ) → int (pos a) ≡ A → int (pos b) ≡ B → int (pos c) ≡ C →
@@ -81,7 +75,7 @@ one_over_one = refl
 unscaled_width : (n : ℕ) → int (pos n) ≡ int (pos n) *ℚ one_over 1
 unscaled_width n = sym (ap (λ (q : ℚ). int (pos n) *ℚ q) one_over_one ∙ *ℚ_comm (int (pos n)) (int (pos 1)) ∙ *ℚ_one (int (pos n)))
 
-width_meets : (lines : List ℕ) (i w : ℕ) → w ≡ get_or lines (i + 1) 0 - get_or lines i 0 → int (pos w) ≡ ratio (pos (get_or lines (suc i) 0 - get_or lines i 0)) 1
+pub width_meets : (lines : List ℕ) (i w : ℕ) → w ≡ get_or lines (i + 1) 0 - get_or lines i 0 → int (pos w) ≡ ratio (pos (get_or lines (suc i) 0 - get_or lines i 0)) 1
 width_meets lines i w e =
     ap (λ (n : ℕ). int (pos n)) (e ∙ ap (λ (n : ℕ). get_or lines n 0 - get_or lines i 0) (add-one i))
     ∙ unscaled_width (get_or lines (suc i) 0 - get_or lines i 0)
@@ -100,7 +94,7 @@ record AreCorners (f : BodyField) (i j k : ℕ) (t : Corners) : Type 0 where
 corner_at : (f : BodyField) (t : ℤ) (a b c d e g : ℕ) → t ≡ node_at f a b c → a ≡ d → b ≡ e → c ≡ g → t ≡ node_at f d e g
 corner_at f t a b c d e g is ea eb ec = is ∙ ap (λ (n : ℕ). node_at f n b c) ea ∙ ap (λ (n : ℕ). node_at f d n c) eb ∙ ap (λ (n : ℕ). node_at f d e n) ec
 
-are_corners : (f : BodyField) (row : Row) (i j k : ℕ) → IsRowOf f j k row → i < counts_of f.grid.now X → AreCorners f i j k (corners_at row.nodes i)
+are_corners : (f : BodyField) (row : Row) (i j k : ℕ) → IsRowOf f j k row → i < counts_of f.rows.grid.now X → AreCorners f i j k (corners_at row.nodes i)
 are_corners f row i j k of l =
     let n = of.nodes in
     record {
@@ -114,40 +108,7 @@ are_corners f row i j k of l =
       at_111 = corner_at f _ (i + 1) (j + 1) (k + 1) (suc i) (suc j) (suc k) (n.t11.values (i + 1) (omega arith)) (add-one i) (add-one j) (add-one k);
     }
 
--- ---- the sides of a cell of a run
-low_is : (f : BodyField) (run : Run) (i j k : ℕ) → IsRunOf f j k run → run.from ≤ i → i < run.to → low_at run i ≡ filled_below f.body.now f.grid.now X i j k
-low_is f run i j k of low high = by_order (from_or_above i run.from low)
-  where
-    from_or_above : (i m : ℕ) → m ≤ i → (i ≡ m) ⊎ (m < i)
-    from_or_above i m l = grind arith
-
-    by_order : (i ≡ run.from) ⊎ (run.from < i) → low_at run i ≡ filled_below f.body.now f.grid.now X i j k
-    by_order (inl e) =
-        let test : (i == run.from) ≡ true = grind (arith, nat_tests) in
-        ap (λ (b : Bool). if b then run.low_x else Some (Solid run.lambda)) test ∙ of.low_x ∙ sym (ap (λ (n : ℕ). filled_below f.body.now f.grid.now X n j k) e)
-    by_order (inr l) =
-        let test : (i == run.from) ≡ false = grind (arith, nat_tests) in
-        ap (λ (b : Bool). if b then run.low_x else Some (Solid run.lambda)) test ∙ of.own (i - 1) (omega arith) (omega arith)
-        ∙ sym (ap (option_map (filled_with f.body.now.materials)) (below_pred (λ n. (mesh_on f.body.now f.grid.now).occupant n j k) i (omega arith)))
-
-high_is : (f : BodyField) (run : Run) (i j k : ℕ) → IsRunOf f j k run → run.from ≤ i → i < run.to → high_at run i ≡ filled_above f.body.now f.grid.now X (suc i) j k
-high_is f run i j k of low high = by_order (last_or_before i run.to high)
-  where
-    last_or_before : (i m : ℕ) → i < m → (i + 1 ≡ m) ⊎ (i + 1 < m)
-    last_or_before i m l = grind arith
-
-    by_order : (i + 1 ≡ run.to) ⊎ (i + 1 < run.to) → high_at run i ≡ filled_above f.body.now f.grid.now X (suc i) j k
-    by_order (inl e) =
-        let test : (i + 1 == run.to) ≡ true = grind (arith, nat_tests) in
-        ap (λ (b : Bool). if b then run.high_x else Some (Solid run.lambda)) test ∙ of.high_x ∙ sym (ap (λ (n : ℕ). filled_above f.body.now f.grid.now X n j k) (sym (add-one i) ∙ e))
-    by_order (inr l) =
-        let test : (i + 1 == run.to) ≡ false = grind (arith, nat_tests) in
-        let within : run.to ≤ counts_of f.grid.now X = of.within in
-        let is = counts_are f.grid.now X in
-        ap (λ (b : Bool). if b then run.high_x else Some (Solid run.lambda)) test ∙ of.own (suc i) (omega arith) (omega arith)
-        ∙ sym (ap (option_map (filled_with f.body.now.materials))
-        (above_within ((mesh_on f.body.now f.grid.now).cells X) (suc i) (λ n. (mesh_on f.body.now f.grid.now).occupant n j k) (omega (arith, within, is, l))))
-
+-- ---- the sides of a cell
 -- what a side adds is the term of the surface where air lies beside
 side_is : (materials : List Material) (mask : ℕ) (o : Option Content) (r : Option Occupant) (b c : ℕ) (t00 t10 t01 t11 : ℤ) (h : ℕ → ℕ → ℤ) →
     r ≡ option_map (filled_with materials) o →
@@ -167,7 +128,7 @@ surface_is n mask rs b c e B C t00 t10 t01 t11 u00 u10 u01 u11 eb ec em h00 h10 
     (excess_meets t01 u01 mask n e h01 em) (excess_meets t11 u11 mask n e h11 em))
 
 -- ---- a cell
-solid_is : (materials : List Material) (o : Option Content) (lambda : ℕ) (v : ℤ) (h : ℕ → ℤ) → Some (Solid lambda) ≡ option_map (filled_with materials) o →
+pub solid_is : (materials : List Material) (o : Option Content) (lambda : ℕ) (v : ℤ) (h : ℕ → ℤ) → Some (Solid lambda) ≡ option_map (filled_with materials) o →
     ((n : ℕ) → lambda ≡ get_or (map (λ m. m.lambda) materials) n 0 → v ≡ h n) → v ≡ of_solid (pos 0) h o
 solid_is materials (Some (content.Solid n)) lambda v h is k = k n (same lambda (get_or (map (λ m. m.lambda) materials) n 0) is)
   where
@@ -182,23 +143,15 @@ solid_is materials None lambda v h is k = absurd (other lambda is)
     other : (a : ℕ) → Some (Solid a) ≡ None → ⊥
     other a e = cc
 
-air_is : (materials : List Material) (o : Option Content) (e rs : ℕ) (h : ℕ → ℤ) → Some (Air e rs) ≡ option_map (filled_with materials) o → pos 0 ≡ of_solid (pos 0) h o
-air_is materials (Some (content.Solid n)) e rs h is = absurd (other e rs (get_or (map (λ m. m.lambda) materials) n 0) is)
-  where
-    other : (a b c : ℕ) → Some (Air a b) ≡ Some (Solid c) → ⊥
-    other a b c e = cc
-air_is materials (Some (content.Air f r)) e rs h is = refl
-air_is materials None e rs h is = refl
-
-nine : (cx cy cz lx hx ly hy lz hz ax ay az px qx py qy pz qz : ℤ) → cx ≡ ax → cy ≡ ay → cz ≡ az → lx ≡ px → hx ≡ qx → ly ≡ py → hy ≡ qy → lz ≡ pz → hz ≡ qz →
+pub nine : (cx cy cz lx hx ly hy lz hz ax ay az px qx py qy pz qz : ℤ) → cx ≡ ax → cy ≡ ay → cz ≡ az → lx ≡ px → hx ≡ qx → ly ≡ py → hy ≡ qy → lz ≡ pz → hz ≡ qz →
     (cx +ℤ cy +ℤ cz) +ℤ ((lx +ℤ hx) +ℤ ((ly +ℤ hy) +ℤ (lz +ℤ hz))) ≡ ((ax +ℤ (px +ℤ qx)) +ℤ (ay +ℤ (py +ℤ qy))) +ℤ (az +ℤ (pz +ℤ qz))
 nine cx cy cz lx hx ly hy lz hz ax ay az px qx py qy pz qz e1 e2 e3 e4 e5 e6 e7 e8 e9 = omega (arith, ints)
 
-pub cell_is : (f : BodyField) (row : Row) (run : Run) (i j k : ℕ) → IsRowOf f j k row → IsRunOf f j k run → run.from ≤ i → i < run.to →
-    solid_at row run i ≡ cell_up f i j k
+pub cell_is : (f : BodyField) (row : Row) (run : Run) (i j k : ℕ) → IsRowOf f j k row → IsRunOf f.rows j k run → run.from ≤ i → i < run.to →
+    solid_at row run i ≡ cell_up (mesh_under f.rows) (terms_under f) i j k
 unfolding solid_at cell_up
 cell_is f row run i j k of is low high =
-    let d = f.body.now in let g = f.grid.now in let m = mesh_under f in
+    let d = f.rows.body.now in let g = f.rows.grid.now in let m = mesh_under f.rows in
     let t = corners_at row.nodes i in
     let x = get_or row.lines.now (i + 1) 0 - get_or row.lines.now i 0 in
     let c = are_corners f row i j k of (omega (arith, is.within, high)) in
@@ -214,9 +167,9 @@ cell_is f row run i j k of is low high =
     (rise_meets _ _ _ _ c.at_011 c.at_001) (rise_meets _ _ _ _ c.at_111 c.at_101)) ∙ ap (λ (l : ℕ). ceiling ((terms_under f).cell Y j i k (int (pos l)))) same)
     (ap ceiling (cell_meets run.lambda row.z.width x row.y.width _ _ _ _ _ _ _ _ _ _ _ wz wx wy (rise_meets _ _ _ _ c.at_001 c.at_000) (rise_meets _ _ _ _ c.at_101 c.at_100)
     (rise_meets _ _ _ _ c.at_011 c.at_010) (rise_meets _ _ _ _ c.at_111 c.at_110)) ∙ ap (λ (l : ℕ). ceiling ((terms_under f).cell Z k i j (int (pos l)))) same)
-    (side_is d.materials row.mask _ _ row.y.width row.z.width t.t000 t.t010 t.t001 t.t011 (λ e rs. ceiling ((terms_under f).surface X i j k e rs true)) (low_is f run i j k is low high)
+    (side_is d.materials row.mask _ _ row.y.width row.z.width t.t000 t.t010 t.t001 t.t011 (λ e rs. ceiling ((terms_under f).surface X i j k e rs true)) (low_is f.rows run i j k is low high)
     (λ e rs. surface_is f.case.mask row.mask rs row.y.width row.z.width e _ _ _ _ _ _ _ _ _ _ wy wz of.mask c.at_000 c.at_010 c.at_001 c.at_011))
-    (side_is d.materials row.mask _ _ row.y.width row.z.width t.t100 t.t110 t.t101 t.t111 (λ e rs. ceiling ((terms_under f).surface X (suc i) j k e rs false)) (high_is f run i j k is low high)
+    (side_is d.materials row.mask _ _ row.y.width row.z.width t.t100 t.t110 t.t101 t.t111 (λ e rs. ceiling ((terms_under f).surface X (suc i) j k e rs false)) (high_is f.rows run i j k is low high)
     (λ e rs. surface_is f.case.mask row.mask rs row.y.width row.z.width e _ _ _ _ _ _ _ _ _ _ wy wz of.mask c.at_100 c.at_110 c.at_101 c.at_111))
     (side_is d.materials row.mask _ _ x row.z.width t.t000 t.t100 t.t001 t.t101 (λ e rs. ceiling ((terms_under f).surface Y j i k e rs true)) (is.low_y i low high)
     (λ e rs. surface_is f.case.mask row.mask rs x row.z.width e _ _ _ _ _ _ _ _ _ _ wx wz of.mask c.at_000 c.at_100 c.at_001 c.at_101))
@@ -228,15 +181,15 @@ cell_is f row run i j k of is low high =
     (λ e rs. surface_is f.case.mask row.mask rs x row.y.width e _ _ _ _ _ _ _ _ _ _ wx wy of.mask c.at_001 c.at_101 c.at_011 c.at_111)))
 
 -- ---- a run
-pub run_is : (f : BodyField) (row : Row) (run : Run) (j k n : ℕ) → IsRowOf f j k row → IsRunOf f j k run → run.from + n ≤ run.to →
-    run_up row run n ≡ cells_from f j k run.from n
+run_is : (f : BodyField) (row : Row) (run : Run) (j k n : ℕ) → IsRowOf f j k row → IsRunOf f.rows j k run → run.from + n ≤ run.to →
+    run_up row run n ≡ cells_from (mesh_under f.rows) (terms_under f) j k run.from n
 unfolding run_up cells_from
-run_is f row run j k n of is l = sum-cong adds_ℤ n (λ m. solid_at row run (run.from + m)) (λ m. cell_up f (run.from + m) j k)
+run_is f row run j k n of is l = sum-cong adds_ℤ n (λ m. solid_at row run (run.from + m)) (λ m. cell_up (mesh_under f.rows) (terms_under f) (run.from + m) j k)
     (λ m below. cell_is f row run (run.from + m) j k of is (omega arith) (omega (arith, l, below)))
 
-pub air_run_is : (f : BodyField) (j k from n e rs : ℕ) → ((i : ℕ) → from ≤ i → i < from + n → Some (Air e rs) ≡ occupant_at f.body.now f.grid.now (place_at i j k)) →
-    pos 0 ≡ cells_from f j k from n
-unfolding cells_from cell_up
-air_run_is f j k from n e rs own =
-    sym (sum-cong adds_ℤ n (λ m. cell_up f (from + m) j k) (λ m. pos 0)
-    (λ m below. sym (air_is f.body.now.materials ((mesh_under f).occupant (from + m) j k) e rs _ (own (from + m) (omega arith) (omega arith)))) ∙ sum-none adds_ℤ n)
+pub whole_run_is : (f : BodyField) (row : Row) (run : Run) (j k from to : ℕ) → from < to → IsRowOf f j k row → IsWholeRun f.rows j k from to run →
+    run_up row run (run.to - run.from) ≡ cells_from (mesh_under f.rows) (terms_under f) j k from (to - from)
+whole_run_is f row run j k from to up of is =
+    let ef = is.from_is in let et = is.to_is in
+    run_is f row run j k (run.to - run.from) of is.run (omega (arith, up, ef, et))
+    ∙ ap (λ (n : ℕ). cells_from (mesh_under f.rows) (terms_under f) j k n (run.to - n)) ef ∙ ap (λ (n : ℕ). cells_from (mesh_under f.rows) (terms_under f) j k from (n - from)) et

@@ -5,10 +5,10 @@ use Rattle.tb_math.specs.Sums.{total_ℤ}
 use Rattle.tb_geometry.specs.declared.occupant.Occupant.{Occupant}
 use Rattle.tb_sums.specs.declared.cell.Corners.{Corners}
 use Rattle.tb_sums.specs.declared.row.Row.{Row}
-use Rattle.tb_sums.specs.declared.run.Run.{Run}
+use Rattle.tb_rows.specs.declared.run.Run.{Run}
 use Rattle.tb_sums.specs.Corners.{solid_up}
 use Rattle.tb_sums.specs.NodeRows.{corners_at}
-use Rattle.tb_sums.specs.Runs.{high_at, low_at}
+use Rattle.tb_rows.specs.Runs.{high_at, low_at}
 use Rattle.tb_sums.specs.RunSums.{run_up, solid_at}
 use Rattle.tb_sums.specs.Sides.{sides_x_up, sides_y_up, sides_z_up}
 
@@ -23,7 +23,7 @@ run_step r run n = ap (λ (k : ℕ). total_ℤ k (λ m. solid_at r run (run.from
 pub one_more : (total term : ℕ) (old new value : ℤ) → pos total ≡ old → pos term ≡ value → new ≡ old +ℤ value → pos (total + term) ≡ new
 one_more total term old new value e f g = omega (arith, ints)
 
-four : (e x y z : ℕ) (p q r s : ℤ) → pos e ≡ p → pos x ≡ q → pos y ≡ r → pos z ≡ s → pos (e + (x + (y + z))) ≡ p +ℤ (q +ℤ (r +ℤ s))
+pub four : (e x y z : ℕ) (p q r s : ℤ) → pos e ≡ p → pos x ≡ q → pos y ≡ r → pos z ≡ s → pos (e + (x + (y + z))) ≡ p +ℤ (q +ℤ (r +ℤ s))
 four e x y z p q r s h j k l = omega (arith, ints)
 
 -- a cell of a run, from the numbers of its row

@@ -1,25 +1,22 @@
 -- The terms of a cell as the numbers that they are made of.
-use Rattle.std.specs.Prelude.{ℕ, ◌^◌, [], ◌∷◌, ℤ, pos, ◌+ℤ◌, ◌-ℤ◌, ◌≤ℤ◌}
+use Rattle.std.specs.Prelude.{ℕ, [], ◌∷◌, ℤ, ◌+ℤ◌, ◌-ℤ◌}
 use Rattle.tb_math.specs.Ceiling.{ceiling}
 use Rattle.tb_terms.specs.declared.field.FieldCell.{FieldCell}
 use Rattle.tb_terms.specs.declared.field.FieldFace.{FieldFace}
 use Rattle.tb_terms.specs.Terms.{field_cell_term}
+use Rattle.tb_field.specs.Fields.{IsTemperature}
 use Rattle.tb_sums.specs.declared.cell.Corners.{Corners}
 
--- a temperature in 10⁻⁸ of the difference
-pub record IsLevel (z : ℤ) : Type 0 where
-  pub least : pos 0 ≤ℤ z
-  pub most : z ≤ℤ pos (10 ^ 8)
-
-pub record AreTemperatures (t : Corners) : Type 0 where
-  pub at_000 : IsLevel t.t000
-  pub at_100 : IsLevel t.t100
-  pub at_010 : IsLevel t.t010
-  pub at_110 : IsLevel t.t110
-  pub at_001 : IsLevel t.t001
-  pub at_101 : IsLevel t.t101
-  pub at_011 : IsLevel t.t011
-  pub at_111 : IsLevel t.t111
+-- the corners have temperatures within limits
+pub record HasTemperatures (t : Corners) : Type 0 where
+  pub at_000 : IsTemperature t.t000
+  pub at_100 : IsTemperature t.t100
+  pub at_010 : IsTemperature t.t010
+  pub at_110 : IsTemperature t.t110
+  pub at_001 : IsTemperature t.t001
+  pub at_101 : IsTemperature t.t101
+  pub at_011 : IsTemperature t.t011
+  pub at_111 : IsTemperature t.t111
 
 -- the term of a cell, or of a face, of these numbers
 abbrev pub cell_at : (lambda a b c : ℕ) (d00 d10 d01 d11 : ℤ) → FieldCell

@@ -1,8 +1,9 @@
-pub mod Around
 pub mod BodyFields
-pub mod Cells
+pub mod BodyFluxes
 pub mod Corners
+pub mod FlowRows
+pub mod Losses
+pub mod LossSums
 pub mod NodeRows
-pub mod Runs
 pub mod RunSums
 pub mod Sides

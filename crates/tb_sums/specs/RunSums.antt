@@ -2,10 +2,10 @@
 use Rattle.std.specs.Prelude.{ℕ, ◌+◌, ◌-◌, slice_index, ℤ, ◌+ℤ◌}
 use Rattle.tb_math.specs.Sums.{total_ℤ}
 use Rattle.tb_sums.specs.declared.row.Row.{Row}
-use Rattle.tb_sums.specs.declared.run.Run.{Run}
+use Rattle.tb_rows.specs.declared.run.Run.{Run}
 use Rattle.tb_sums.specs.Corners.{solid_up}
 use Rattle.tb_sums.specs.NodeRows.{corners_at}
-use Rattle.tb_sums.specs.Runs.{high_at, low_at}
+use Rattle.tb_rows.specs.Runs.{high_at, low_at}
 use Rattle.tb_sums.specs.Sides.{sides_x_up, sides_y_up, sides_z_up}
 
 -- a cell with its sides

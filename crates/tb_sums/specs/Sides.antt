@@ -1,10 +1,9 @@
 -- What the sides of a solid cell add.
-use Rattle.std.specs.Prelude.{ℕ, ◌^◌, Option, Some, if◌then◌else◌, ℤ, pos, ◌+ℤ◌, ◌≡◌}
+use Rattle.std.specs.Prelude.{ℕ, ◌^◌, Option, Some, if◌then◌else◌, ℤ, pos, ◌+ℤ◌}
 use Rattle.tb_math.specs.Ceiling.{ceiling}
 use Rattle.tb_model.specs.Values.{case_of}
 use Rattle.tb_geometry.specs.declared.occupant.Occupant.{Occupant}
-use Rattle.tb_geometry.specs.declared.occupant.Occupant.TheVariants.{Solid, Air}
-use Rattle.tb_terms.specs.Limits.{IsConductivity, IsResistance}
+use Rattle.tb_geometry.specs.declared.occupant.Occupant.TheVariants.{Air}
 use Rattle.tb_terms.specs.Terms.{field_face_term}
 use Rattle.tb_sums.specs.declared.cell.Corners.{Corners}
 use Rattle.tb_sums.specs.Corners.{face_across}
@@ -12,11 +11,6 @@ use Rattle.tb_sums.specs.Corners.{face_across}
 -- the temperature of an environment in 10⁻⁸ of the difference: 1 where it is in the case
 abbrev pub level_of : ℕ → ℕ → ℤ
 level_of mask environment = if case_of mask environment then pos (10 ^ 8) else pos 0
-
--- what fills a cell is within limits
-pub record IsFilled (o : Occupant) : Type 0 where
-  pub conducts : (lambda : ℕ) → o ≡ Solid lambda → IsConductivity lambda
-  pub resists : (environment rs : ℕ) → o ≡ Air environment rs → IsResistance rs
 
 -- what a side of a solid cell adds, at which its corners have these temperatures: the term of its surface, rounded up,
 -- where air lies beside

@@ -3,11 +3,12 @@ ghost use Rattle.std.specs.Prelude.{◌≡◌, ◌+◌, ◌*◌, ◌^◌, ◌<�
 ghost use Rattle.tb_math.specs.Ceiling.{ceiling};
 ghost use Rattle.tb_terms.specs.Limits.{IsConductivity, IsDifference, IsResistance, IsWidth};
 ghost use Rattle.tb_terms.specs.Terms.{field_cell_term, field_face_term};
-ghost use Rattle.tb_sums.specs.Corners.{AreTemperatures, IsLevel, along_x, along_y, along_z, cell_at, face_at, face_across, solid_up};
+ghost use Rattle.tb_field.specs.Fields.{IsTemperature};
+ghost use Rattle.tb_sums.specs.Corners.{HasTemperatures, along_x, along_y, along_z, cell_at, face_at, face_across, solid_up};
 
 use crate::interval::Interval;
-use crate::quotient::Divisor;
 use crate::terms::term_up;
+use tb_rows::Divisor;
 use tb_terms::{FieldCell, FieldFace};
 
 /// The node values at the corners of a cell: x first, then y, then z.
@@ -46,8 +47,8 @@ pub struct Differences {
 
 #[inline]
 fn rise(low: i64, high: i64) -> i64
-    requires low { IsLevel low }
-    requires high { IsLevel high }
+    requires low { IsTemperature low }
+    requires high { IsTemperature high }
     ensures value { result ≡ high -ℤ low }
     ensures size { unsigned_abs result ≤ 10 ^ 8 }
 {
@@ -74,7 +75,7 @@ fn axis_energy(lambda: u32, a: Interval, b: Interval, c: Interval, d: Difference
 #[inline]
 fn energy_along_x(lambda: u32, at: Cuboid, t: Corners) -> u128
     requires conductivity { IsConductivity lambda }
-    requires temperatures { AreTemperatures t }
+    requires temperatures { HasTemperatures t }
     ensures value { pos result ≡ ceiling (field_cell_term (along_x lambda at.x.width at.y.width at.z.width t)) }
     ensures most { result ≤ 125 * 10 ^ 23 }
 {
@@ -90,7 +91,7 @@ fn energy_along_x(lambda: u32, at: Cuboid, t: Corners) -> u128
 #[inline]
 fn energy_along_y(lambda: u32, at: Cuboid, t: Corners) -> u128
     requires conductivity { IsConductivity lambda }
-    requires temperatures { AreTemperatures t }
+    requires temperatures { HasTemperatures t }
     ensures value { pos result ≡ ceiling (field_cell_term (along_y lambda at.x.width at.y.width at.z.width t)) }
     ensures most { result ≤ 125 * 10 ^ 23 }
 {
@@ -106,7 +107,7 @@ fn energy_along_y(lambda: u32, at: Cuboid, t: Corners) -> u128
 #[inline]
 fn energy_along_z(lambda: u32, at: Cuboid, t: Corners) -> u128
     requires conductivity { IsConductivity lambda }
-    requires temperatures { AreTemperatures t }
+    requires temperatures { HasTemperatures t }
     ensures value { pos result ≡ ceiling (field_cell_term (along_z lambda at.x.width at.y.width at.z.width t)) }
     ensures most { result ≤ 125 * 10 ^ 23 }
 {
@@ -139,7 +140,7 @@ fn face_energy(rs: u32, b: Interval, c: Interval, d: Differences) -> u128
 #[inline]
 pub fn solid_energy(lambda: u32, at: Cuboid, t: Corners) -> u128
     requires conductivity { IsConductivity lambda }
-    requires temperatures { AreTemperatures t }
+    requires temperatures { HasTemperatures t }
     ensures value { pos result ≡ solid_up lambda at.x.width at.y.width at.z.width t }
     ensures most { result ≤ 375 * 10 ^ 23 }
 {
@@ -158,11 +159,11 @@ pub fn surface_energy(
     t11: i64,
 ) -> u128
     requires resistance { IsResistance rs }
-    requires level { IsLevel level }
-    requires at_00 { IsLevel t00 }
-    requires at_10 { IsLevel t10 }
-    requires at_01 { IsLevel t01 }
-    requires at_11 { IsLevel t11 }
+    requires level { IsTemperature level }
+    requires at_00 { IsTemperature t00 }
+    requires at_10 { IsTemperature t10 }
+    requires at_01 { IsTemperature t01 }
+    requires at_11 { IsTemperature t11 }
     ensures value { pos result ≡ ceiling (field_face_term (face_across rs b.width c.width level t00 t10 t01 t11)) }
     ensures most { result ≤ 25 * 10 ^ 21 }
 {

@@ -1,137 +1,37 @@
 // The energy of a field on a grid that carries a body, row by row.
-ghost use Rattle.std.specs.Prelude.{◌≡◌, ◌+◌, ◌-◌, ◌*◌, ◌^◌, ◌<◌, ◌≤◌, ℕ, Contains, None, Some, IfSome, length, pos, slice_index, slice_index_or};
-ghost use Rattle.tb_places.specs.declared.AxisName.{AxisName};
+ghost use Rattle.std.specs.Prelude.{◌≡◌, ◌+◌, ◌-◌, ◌*◌, ◌^◌, ◌<◌, ◌≤◌, pos, slice_index};
 ghost use Rattle.tb_places.specs.declared.AxisName.TheVariants.{X, Y, Z};
-ghost use Rattle.tb_places.specs.declared.Place.{Place};
-ghost use Rattle.tb_places.specs.Places.{IsCell, node_count, node_number, place_at};
-ghost use Rattle.tb_grid.specs.Axis.{IsBetweenEnds, IsIntervalOf, IsLineAt, interval_width};
-ghost use Rattle.tb_grid.specs.Grid.{IsGrid, counts_of, lines_of};
-ghost use Rattle.tb_geometry.specs.Base.{base_axes, base_counts, base_lines};
-ghost use Rattle.tb_geometry.specs.Grids.{CarriesBody, LiesInBaseCell, mesh_on, occupant_at};
-ghost use Rattle.tb_model.specs.Energy.{upper_end};
-ghost use Rattle.tb_model.specs.Values.{case_of, field_of};
-ghost use Rattle.tb_geometry.specs.declared.occupant.Occupant.TheVariants.{Solid};
-ghost use Rattle.tb_sums.specs.NodeRows.{AreWarm};
-ghost use Rattle.tb_sums.specs.Around.{IsBaseAbove, IsBaseBelow, LiesIn};
+ghost use Rattle.tb_grid.specs.Axis.{IsLineAt};
+ghost use Rattle.tb_grid.specs.Grid.{counts_of};
+ghost use Rattle.tb_geometry.specs.Base.{base_counts, base_lines};
+ghost use Rattle.tb_rows.specs.Rows.{IsAround, mesh_under};
+ghost use Rattle.tb_rows.specs.Sums.{cells_from, cells_up, layers_up, rows_up};
 
 use crate::interval::Interval;
 use crate::row::{NodeRows, Row};
-use crate::run::{Beside, Run};
-use tb_geometry::{Body, Case, Occupant};
-use tb_grid::{Axis, AxisName, Grid, Place};
+use tb_geometry::Case;
+use tb_grid::{AxisName, Place};
+use tb_rows::{Around, Rows};
 
 /// A field on a grid that carries a body, and a case: one temperature for each node, in 10⁻⁸ of the difference.
 #[derive(Clone, Copy)]
 pub struct BodyField<'a> {
-    pub body: &'a Body,
-    pub grid: &'a Grid,
+    pub rows: Rows<'a>,
     pub temperatures: &'a [i64],
     pub case: Case,
 }
 
-/// A row of cells, and the base intervals of the rows at it and beside it.
-#[derive(Clone, Copy)]
-pub struct Around {
-    pub j: u32,
-    pub k: u32,
-    pub base_j: u32,
-    pub low_j: Option<u32>,
-    pub high_j: Option<u32>,
-    pub base_k: u32,
-    pub low_k: Option<u32>,
-    pub high_k: Option<u32>,
-}
-
 impl<'a> BodyField<'a> {
-    ghost use Rattle.tb_sums.specs.BodyFields.{AreNodeRows, IsAround, IsBeside, IsBodyField, IsNodeRow, IsRowOf, IsRunOf, cells_from, cells_up, layers_up, rows_up};
-
-    // The cells at an index along an axis.
-    fn interval(&self, axis: AxisName, i: u32) -> Interval
-        requires fits { IsBodyField self.now }
-        requires within { i < counts_of self.now.grid.now axis }
-        ensures { result.width ≡ interval_width (lines_of self.now.grid.now axis) i }
-    {
-        Interval::new(self.grid.axis(axis).width(i))
-    }
-
-    // The base interval in which the cells at an index along an axis lie.
-    fn base_of(&self, axis: AxisName, i: u32) -> u32
-        requires fits { IsBodyField self.now }
-        requires within { i < counts_of self.now.grid.now axis }
-        ensures lies { LiesIn self.now.body.now self.now.grid.now axis i result }
-    {
-        base_interval(self.body.base().axis(axis), self.grid.axis(axis), i)
-    }
-
-    // The base interval below a line of an axis, and above it, where there are cells.
-    fn base_below(&self, axis: AxisName, i: u32) -> Option<u32>
-        requires fits { IsBodyField self.now }
-        requires within { i ≤ counts_of self.now.grid.now axis }
-        ensures { IsBaseBelow self.now.body.now self.now.grid.now axis i result }
-    {
-        if i == 0 {
-            return None;
-        }
-        Some(self.base_of(axis, i - 1))
-    }
-
-    fn base_above(&self, axis: AxisName, i: u32) -> Option<u32>
-        requires fits { IsBodyField self.now }
-        requires within { i ≤ counts_of self.now.grid.now axis }
-        ensures { IsBaseAbove self.now.body.now self.now.grid.now axis i result }
-    {
-        if i == self.grid.axis(axis).intervals() {
-            return None;
-        }
-        Some(self.base_of(axis, i))
-    }
-
-    // How many base intervals there are along x.
-    fn base_intervals(&self) -> u32
-        ensures count { result ≡ base_counts self.now.body.now.boxes X }
-        ensures grid { IsGrid (base_axes self.now.body.now.boxes) }
-    {
-        self.body.base().axis(AxisName::X).intervals()
-    }
-
-    // The index along x of a base line.
-    fn base_line(&self, b: u32) -> u32
-        requires fits { IsBodyField self.now }
-        requires within { b < length (base_lines X self.now.body.now.boxes) }
-        ensures { IsLineAt (lines_of self.now.grid.now X) (slice_index (base_lines X self.now.body.now.boxes) b) result }
-    {
-        line_index(
-            self.grid.axis(AxisName::X),
-            self.body.base().axis(AxisName::X).lines()[b as usize],
-        )
-    }
-
-    // What fills the cells in these base intervals, where there are all three.
-    fn filling(&self, x: Option<u32>, y: Option<u32>, z: Option<u32>) -> Option<Occupant>
-        requires on_x { IfSome x (λ i. i < base_counts self.now.body.now.boxes X) }
-        requires on_y { IfSome y (λ j. j < base_counts self.now.body.now.boxes Y) }
-        requires on_z { IfSome z (λ k. k < base_counts self.now.body.now.boxes Z) }
-        ensures none_x { x ≡ None → result ≡ None }
-        ensures none_y { y ≡ None → result ≡ None }
-        ensures none_z { z ≡ None → result ≡ None }
-        ensures fills { let d = self.now.body.now in let g = self.now.grid.now in
-            (i j k : ℕ) (p : Place) → x ≡ Some i → y ≡ Some j → z ≡ Some k → CarriesBody g d → IsCell (counts_of g) p
-            → LiesInBaseCell d.boxes g p (place_at i j k) → result ≡ occupant_at d g p }
-    {
-        match (x, y, z) {
-            (Some(i), Some(j), Some(k)) => Some(self.body.filling(Place { i, j, k })),
-            _ => None,
-        }
-    }
+    ghost use Rattle.tb_sums.specs.BodyFields.{AreNodeRows, IsBodyField, IsNodeRow, IsRowOf, terms_under};
 
     // The temperatures along a line of nodes.
     fn node_row(&self, j: u32, k: u32) -> &'a [i64]
         requires fits { IsBodyField self.now }
-        requires row { j ≤ counts_of self.now.grid.now Y }
-        requires layer { k ≤ counts_of self.now.grid.now Z }
+        requires row { j ≤ counts_of self.now.rows.grid.now Y }
+        requires layer { k ≤ counts_of self.now.rows.grid.now Z }
         ensures row { IsNodeRow self.now j k result.now }
     {
-        let counts = self.grid.counts();
+        let counts = self.rows.grid.counts();
         let last = counts.node_number(Place { i: counts.x, j, k });
         let end = last.0 as usize + 1;
         &self.temperatures[end - counts.x as usize - 1..end]
@@ -139,8 +39,8 @@ impl<'a> BodyField<'a> {
 
     fn node_rows(&self, j: u32, k: u32) -> NodeRows<'a>
         requires fits { IsBodyField self.now }
-        requires row { j < counts_of self.now.grid.now Y }
-        requires layer { k < counts_of self.now.grid.now Z }
+        requires row { j < counts_of self.now.rows.grid.now Y }
+        requires layer { k < counts_of self.now.rows.grid.now Z }
         ensures rows { AreNodeRows self.now j k result }
     {
         NodeRows {
@@ -153,34 +53,16 @@ impl<'a> BodyField<'a> {
 
     fn row_at(&self, j: u32, k: u32) -> Row<'a>
         requires fits { IsBodyField self.now }
-        requires row { j < counts_of self.now.grid.now Y }
-        requires layer { k < counts_of self.now.grid.now Z }
+        requires row { j < counts_of self.now.rows.grid.now Y }
+        requires layer { k < counts_of self.now.rows.grid.now Z }
         ensures { IsRowOf self.now j k result }
     {
         Row {
-            lines: self.grid.axis(AxisName::X).lines(),
-            y: self.interval(AxisName::Y, j),
-            z: self.interval(AxisName::Z, k),
+            lines: self.rows.grid.axis(AxisName::X).lines(),
+            y: Interval::new(self.rows.width(AxisName::Y, j)),
+            z: Interval::new(self.rows.width(AxisName::Z, k)),
             nodes: self.node_rows(j, k),
             mask: self.case.mask,
-        }
-    }
-
-    fn around(&self, j: u32, k: u32) -> Around
-        requires fits { IsBodyField self.now }
-        requires row { j < counts_of self.now.grid.now Y }
-        requires layer { k < counts_of self.now.grid.now Z }
-        ensures { IsAround self.now j k result }
-    {
-        Around {
-            j,
-            k,
-            base_j: self.base_of(AxisName::Y, j),
-            low_j: self.base_below(AxisName::Y, j),
-            high_j: self.base_above(AxisName::Y, j + 1),
-            base_k: self.base_of(AxisName::Z, k),
-            low_k: self.base_below(AxisName::Z, k),
-            high_k: self.base_above(AxisName::Z, k + 1),
         }
     }
 
@@ -188,96 +70,36 @@ impl<'a> BodyField<'a> {
     fn run(&self, row: &Row, around: &Around, b: u32, from: u32, to: u32) -> u128
         requires fits { IsBodyField self.now }
         requires row { IsRowOf self.now around.now.j around.now.k row.now }
-        requires around { IsAround self.now around.now.j around.now.k around.now }
-        requires within { (around.now.j < counts_of self.now.grid.now Y) × (around.now.k < counts_of self.now.grid.now Z) }
-        requires base { b < base_counts self.now.body.now.boxes X }
-        requires from { IsLineAt self.now.grid.now.x (slice_index (base_lines X self.now.body.now.boxes) b) from }
-        requires to { IsLineAt self.now.grid.now.x (slice_index (base_lines X self.now.body.now.boxes) (b + 1)) to }
+        requires around { IsAround self.now.rows around.now.j around.now.k around.now }
+        requires within { (around.now.j < counts_of self.now.rows.grid.now Y) × (around.now.k < counts_of self.now.rows.grid.now Z) }
+        requires base { b < base_counts self.now.rows.body.now.boxes X }
+        requires from { IsLineAt self.now.rows.grid.now.x (slice_index (base_lines X self.now.rows.body.now.boxes) b) from }
+        requires to { IsLineAt self.now.rows.grid.now.x (slice_index (base_lines X self.now.rows.body.now.boxes) (b + 1)) to }
         ensures up { from < to }
-        ensures value { pos result ≡ cells_from self.now around.now.j around.now.k from (to - from) }
+        ensures value { pos result ≡ cells_from (mesh_under self.now.rows) (terms_under self.now) around.now.j around.now.k from (to - from) }
         ensures most { result ≤ (to - from) * 10 ^ 26 }
     {
-        let at = self.body.filling(Place {
-            i: b,
-            j: around.base_j,
-            k: around.base_k,
-        });
-        match at {
-            Occupant::Solid { lambda } => row.run(&self.solid_run(around, lambda, b, from, to)),
-            Occupant::Air { .. } => 0,
-        }
-    }
-
-    // The run of solid cells in a base interval, with what lies beside them.
-    fn solid_run(&self, around: &Around, lambda: u32, b: u32, from: u32, to: u32) -> Run
-        requires fits { IsBodyField self.now }
-        requires around { IsAround self.now around.now.j around.now.k around.now }
-        requires within { (around.now.j < counts_of self.now.grid.now Y) × (around.now.k < counts_of self.now.grid.now Z) }
-        requires up { from < to }
-        requires end { to ≤ counts_of self.now.grid.now X }
-        requires base { b < base_counts self.now.body.now.boxes X }
-        requires lies { (i : ℕ) → from ≤ i → i < to → LiesIn self.now.body.now self.now.grid.now X i b }
-        requires own { (i : ℕ) → from ≤ i → i < to →
-            Some (Solid lambda) ≡ occupant_at self.now.body.now self.now.grid.now (place_at i around.now.j around.now.k) }
-        ensures run { IsRunOf self.now around.now.j around.now.k result }
-        ensures from { result.from ≡ from }
-        ensures to { result.to ≡ to }
-    {
-        let beside = self.beside(around, b, from, to);
-        Run {
-            lambda,
-            from,
-            to,
-            low_x: beside.low_x,
-            high_x: beside.high_x,
-            low_y: beside.low_y,
-            high_y: beside.high_y,
-            low_z: beside.low_z,
-            high_z: beside.high_z,
-        }
-    }
-
-    // What lies beside the cells of a row that lie in a base interval.
-    fn beside(&self, around: &Around, b: u32, from: u32, to: u32) -> Beside
-        requires fits { IsBodyField self.now }
-        requires around { IsAround self.now around.now.j around.now.k around.now }
-        requires within { (around.now.j < counts_of self.now.grid.now Y) × (around.now.k < counts_of self.now.grid.now Z) }
-        requires up { from < to }
-        requires end { to ≤ counts_of self.now.grid.now X }
-        requires base { b < base_counts self.now.body.now.boxes X }
-        requires lies { (i : ℕ) → from ≤ i → i < to → LiesIn self.now.body.now self.now.grid.now X i b }
-        ensures { IsBeside self.now around.now.j around.now.k from to result }
-    {
-        let Around { base_j, base_k, .. } = *around;
-        Beside {
-            low_x: self.filling(
-                self.base_below(AxisName::X, from),
-                Some(base_j),
-                Some(base_k),
-            ),
-            high_x: self.filling(self.base_above(AxisName::X, to), Some(base_j), Some(base_k)),
-            low_y: self.filling(Some(b), around.low_j, Some(base_k)),
-            high_y: self.filling(Some(b), around.high_j, Some(base_k)),
-            low_z: self.filling(Some(b), Some(base_j), around.low_k),
-            high_z: self.filling(Some(b), Some(base_j), around.high_k),
+        match self.rows.run_at(around, b, from, to) {
+            Some(cells) => row.run(&cells),
+            None => 0,
         }
     }
 
     // What a row of cells adds.
     fn row(&self, j: u32, k: u32) -> u128
         requires fits { IsBodyField self.now }
-        requires row { j < counts_of self.now.grid.now Y }
-        requires layer { k < counts_of self.now.grid.now Z }
-        ensures value { pos result ≡ cells_up self.now j k (counts_of self.now.grid.now X) }
+        requires row { j < counts_of self.now.rows.grid.now Y }
+        requires layer { k < counts_of self.now.rows.grid.now Z }
+        ensures value { pos result ≡ cells_up (mesh_under self.now.rows) (terms_under self.now) j k (counts_of self.now.rows.grid.now X) }
         ensures most { result ≤ 1023 * 10 ^ 26 }
     {
         let row = self.row_at(j, k);
-        let around = self.around(j, k);
+        let around = self.rows.around(j, k);
         let mut total = 0u128;
-        let intervals = self.base_intervals();
-        let mut from = self.base_line(0);
+        let intervals = self.rows.base_intervals();
+        let mut from = self.rows.base_line(0);
         for b in 0..intervals {
-            let to = self.base_line(b + 1);
+            let to = self.rows.base_line(b + 1);
             total += self.run(&row, &around, b, from, to);
             from = to;
         }
@@ -287,72 +109,27 @@ impl<'a> BodyField<'a> {
     // What a layer of cells adds.
     fn layer(&self, k: u32) -> u128
         requires fits { IsBodyField self.now }
-        requires layer { k < counts_of self.now.grid.now Z }
-        ensures value { pos result ≡ rows_up self.now k (counts_of self.now.grid.now Y) }
+        requires layer { k < counts_of self.now.rows.grid.now Z }
+        ensures value { pos result ≡ rows_up (mesh_under self.now.rows) (terms_under self.now) k (counts_of self.now.rows.grid.now Y) }
         ensures most { result ≤ 1023 * (1023 * 10 ^ 26) }
     {
         let mut total = 0u128;
-        for j in 0..self.grid.axis(AxisName::Y).intervals() {
+        for j in 0..self.rows.grid.axis(AxisName::Y).intervals() {
             total += self.row(j, k);
         }
         total
     }
 
-    // The energy, each term rounded up.
-    fn energy(&self) -> u128
+    /// The energy, each of its terms rounded up.
+    pub fn energy(&self) -> u128
         requires fits { IsBodyField self.now }
-        ensures value { pos result ≡ layers_up self.now (counts_of self.now.grid.now Z) }
+        ensures value { pos result ≡ layers_up (mesh_under self.now.rows) (terms_under self.now) (counts_of self.now.rows.grid.now Z) }
         ensures most { result ≤ 1023 * (1023 * (1023 * 10 ^ 26)) }
     {
         let mut total = 0u128;
-        for k in 0..self.grid.axis(AxisName::Z).intervals() {
+        for k in 0..self.rows.grid.axis(AxisName::Z).intervals() {
             total += self.layer(k);
         }
         total
-    }
-}
-
-/// The upper end of an interval, in fW/K: the energy of a temperature field on a grid that carries a body, each of its
-/// terms rounded up. It takes no memory, and no sum is too large.
-///
-/// There is one temperature for each node, from 0 to 1 in 10⁻⁸ of the difference, in the order of the nodes.
-pub fn upper_end(body: &Body, grid: &Grid, temperatures: &[i64], case: Case) -> i128
-    requires carries { CarriesBody grid.now body.now }
-    requires count { length temperatures.now ≡ node_count (counts_of grid.now) }
-    requires warm { AreWarm temperatures.now }
-    ensures { let m = mesh_on body.now grid.now in
-        result ≡ upper_end m (case_of case.mask) (field_of m.cells temperatures.now) }
-{
-    let _base = body.base();
-    let _counts = grid.counts();
-    let field = BodyField {
-        body,
-        grid,
-        temperatures,
-        case,
-    };
-    field.energy() as i128
-}
-
-// The interval of an axis of the base grid in which a line of another axis lies.
-fn base_interval(base: &Axis, axis: &Axis, i: u32) -> u32
-    requires line { i < length axis.now }
-    requires between { IsBetweenEnds base.now (slice_index axis.now i) }
-    ensures { IsIntervalOf base.now (slice_index axis.now i) result }
-{
-    match base.interval_of(axis.lines()[i as usize]) {
-        Some(interval) => interval,
-        None => unreachable!(),
-    }
-}
-
-// The index of the line at a coordinate.
-fn line_index(axis: &Axis, x: u32) -> u32
-    requires { Contains axis.now x }
-    ensures { IsLineAt axis.now x result }
-{
-    match axis.line_at(x) {
-        Some(i) => i,
-        None => unreachable!(),
     }
 }

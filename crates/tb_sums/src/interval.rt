@@ -2,7 +2,7 @@
 ghost use Rattle.std.specs.Prelude.{◌≡◌, ◌*◌, ◌^◌, ◌<◌, ◌≤◌};
 ghost use Rattle.tb_terms.specs.Limits.{IsWidth};
 
-use crate::quotient::Divisor;
+use tb_rows::Divisor;
 
 /// The cells at an index along an axis: their width in 0.1 mm, and the divisor of their energies along the axis.
 #[derive(Clone, Copy, Debug)]

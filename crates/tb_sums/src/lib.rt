@@ -1,25 +1,29 @@
 //! The two ends of an interval, of a field and of a flux on grids that carry a body.
 //!
-//! By Dirichlet's principle the energy of a temperature field is at least the heat flow between environments.
-//! [`upper_end`] is that energy, each of its terms rounded up.
+//! By Dirichlet's principle the energy of a temperature field is at least the heat flow between environments, and by
+//! Thomson's principle the source of a balanced heat flux less its loss is at most the heat flow. [`upper_end`] is that
+//! energy, and [`lower_end`] takes that loss off the source, each of their terms rounded up. So the ends are sound however
+//! many terms there are.
 //!
-//! A sum goes once over the cells in the order of their numbers: a solid cell has its terms along the three axes and
-//! those of the surfaces at its sides ([`laws::sums_go_by_cells`]). The cells of a row that lie in one base interval are
-//! a run: what fills them, and what lies beside them, is asked of the body once. The eight corner values of a cell are
-//! loaded once, and a quotient is guessed by a product and checked ([`Divisor`]).
+//! A sum goes over the cells in the order of their numbers, run by run (`tb_rows`), with the terms of a cell along the
+//! three axes and those of the surfaces at its sides together. The values of a cell are loaded once, and the divisors of
+//! its terms are kept while widths and conductivity stay the same.
 #![tactic(auto)]
 
 mod cell;
+mod ends;
 mod energy;
+mod flow_row;
+mod flux;
 mod interval;
-pub mod laws;
-mod limits;
-mod quotient;
+mod losses;
 mod row;
-mod run;
 mod sides;
+mod solid;
+mod sources;
+mod surfaces;
 mod terms;
+mod width;
 
-pub use energy::upper_end;
-pub use limits::are_temperatures;
-pub use quotient::{Divisor, quotient_up};
+pub use ends::{lower_end, upper_end};
+pub use tb_numbers::PastLimit;

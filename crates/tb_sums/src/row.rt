@@ -1,12 +1,14 @@
 // A row of cells along x, with the temperatures around it.
 ghost use Rattle.std.specs.Prelude.{◌≡◌, ◌+◌, ◌-◌, ◌*◌, ◌^◌, ◌<◌, ◌≤◌, ◌==◌, length, pos};
-ghost use Rattle.tb_sums.specs.Corners.{AreTemperatures};
-ghost use Rattle.tb_sums.specs.NodeRows.{AreWarm, AreWidths, corners_at};
+ghost use Rattle.tb_field.specs.Fields.{AreTemperatures};
+ghost use Rattle.tb_rows.specs.Widths.{AreWidths};
+ghost use Rattle.tb_sums.specs.Corners.{HasTemperatures};
+ghost use Rattle.tb_sums.specs.NodeRows.{corners_at};
 
 use crate::cell::{Corners, Cuboid, solid_energy};
 use crate::interval::Interval;
-use crate::run::Run;
 use crate::sides::{sides_x, sides_y, sides_z};
+use tb_rows::Run;
 
 /// The node values of a row of cells: along its four lines of nodes, the low y first, then the low z.
 #[derive(Clone, Copy)]
@@ -31,10 +33,10 @@ pub struct Row<'a> {
     pub ghost t10: { length nodes.t10.now ≡ length lines.now },
     pub ghost t01: { length nodes.t01.now ≡ length lines.now },
     pub ghost t11: { length nodes.t11.now ≡ length lines.now },
-    pub ghost warm_00: { AreWarm nodes.t00.now },
-    pub ghost warm_10: { AreWarm nodes.t10.now },
-    pub ghost warm_01: { AreWarm nodes.t01.now },
-    pub ghost warm_11: { AreWarm nodes.t11.now },
+    pub ghost warm_00: { AreTemperatures nodes.t00.now },
+    pub ghost warm_10: { AreTemperatures nodes.t10.now },
+    pub ghost warm_01: { AreTemperatures nodes.t01.now },
+    pub ghost warm_11: { AreTemperatures nodes.t11.now },
     pub ghost few: { length lines.now ≤ 1024 },
 }
 
@@ -54,7 +56,7 @@ impl Row<'_> {
     fn corners(&self, i: usize) -> Corners
         requires { i + 1 < length self.now.lines.now }
         ensures exact { result ≡ corners_at self.now.nodes i }
-        ensures temperatures { AreTemperatures result }
+        ensures temperatures { HasTemperatures result }
     {
         let n = self.nodes;
         Corners {

@@ -1,8 +1,10 @@
 // The sides of a solid cell.
 ghost use Rattle.std.specs.Prelude.{◌≡◌, ◌*◌, ◌^◌, ◌≤◌, IfSome, pos};
 ghost use Rattle.tb_model.specs.Values.{case_of};
-ghost use Rattle.tb_sums.specs.Corners.{AreTemperatures, IsLevel};
-ghost use Rattle.tb_sums.specs.Sides.{IsFilled, level_of, side_up, sides_x_up, sides_y_up, sides_z_up};
+ghost use Rattle.tb_field.specs.Fields.{IsTemperature};
+ghost use Rattle.tb_sums.specs.Corners.{HasTemperatures};
+ghost use Rattle.tb_rows.specs.Filled.{IsFilled};
+ghost use Rattle.tb_sums.specs.Sides.{level_of, side_up, sides_x_up, sides_y_up, sides_z_up};
 
 use crate::cell::{Corners, Cuboid, surface_energy};
 use crate::interval::Interval;
@@ -12,7 +14,7 @@ use tb_geometry::Occupant;
 #[inline]
 fn boundary(mask: u8, environment: u8) -> i64
     ensures value { result ≡ level_of mask environment }
-    ensures level { IsLevel result }
+    ensures level { IsTemperature result }
 {
     if is_inside(mask, environment) {
         100_000_000
@@ -34,10 +36,10 @@ fn side(
     t11: i64,
 ) -> u128
     requires filled { IfSome beside IsFilled }
-    requires at_00 { IsLevel t00 }
-    requires at_10 { IsLevel t10 }
-    requires at_01 { IsLevel t01 }
-    requires at_11 { IsLevel t11 }
+    requires at_00 { IsTemperature t00 }
+    requires at_10 { IsTemperature t10 }
+    requires at_01 { IsTemperature t01 }
+    requires at_11 { IsTemperature t11 }
     ensures value { pos result ≡ side_up mask beside b.width c.width t00 t10 t01 t11 }
     ensures most { result ≤ 25 * 10 ^ 21 }
 {
@@ -68,7 +70,7 @@ pub fn sides_x(
 ) -> u128
     requires low { IfSome low IsFilled }
     requires high { IfSome high IsFilled }
-    requires temperatures { AreTemperatures t }
+    requires temperatures { HasTemperatures t }
     ensures value { pos result ≡ sides_x_up mask low high at.y.width at.z.width t }
     ensures most { result ≤ 50 * 10 ^ 21 }
 {
@@ -87,7 +89,7 @@ pub fn sides_y(
 ) -> u128
     requires low { IfSome low IsFilled }
     requires high { IfSome high IsFilled }
-    requires temperatures { AreTemperatures t }
+    requires temperatures { HasTemperatures t }
     ensures value { pos result ≡ sides_y_up mask low high at.x.width at.z.width t }
     ensures most { result ≤ 50 * 10 ^ 21 }
 {
@@ -106,7 +108,7 @@ pub fn sides_z(
 ) -> u128
     requires low { IfSome low IsFilled }
     requires high { IfSome high IsFilled }
-    requires temperatures { AreTemperatures t }
+    requires temperatures { HasTemperatures t }
     ensures value { pos result ≡ sides_z_up mask low high at.x.width at.y.width t }
     ensures most { result ≤ 50 * 10 ^ 21 }
 {
@@ -116,7 +118,7 @@ pub fn sides_z(
 
 // Whether an environment is in a case.
 #[inline]
-fn is_inside(mask: u8, environment: u8) -> bool
+pub fn is_inside(mask: u8, environment: u8) -> bool
     ensures { result ≡ case_of mask environment }
 {
     environment < 8 && (mask >> environment) % 2 == 1

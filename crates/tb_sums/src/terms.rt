@@ -2,7 +2,7 @@
 ghost use Rattle.std.specs.Prelude.{◌≡◌, ◌*◌, ◌^◌, ◌<◌, ◌≤◌, pos};
 ghost use Rattle.tb_math.specs.Ceiling.{ceiling};
 
-use crate::quotient::{Divisor, quotient_up};
+use tb_rows::{Divisor, quotient_up};
 use tb_terms::Functional;
 
 /// A term, rounded up.

@@ -1,52 +1,22 @@
-// Upper ends and faults of fluxes on a wall and on a corner. The ends were computed by a separate program with exact
-// fractions, from the formulas of the terms; the faults were worked out by hand.
+// Faults of fluxes on a wall, worked out by hand.
 ghost use Rattle.std.specs.Prelude.{◌≤◌, length};
 
 use crate::grids::{axis, body_of};
 use std::alloc::Global;
 use std::test::Fail;
 use tb_flux::Flux;
-use tb_geometry::{Body, Case};
+use tb_geometry::Body;
 use tb_grid::{CellId, FaceId, Grid};
-use tb_sums::{are_temperatures, upper_end};
 use tb_text::read_detail;
 
-// 1 m² of 200 mm, and the same with its surface resistances exchanged.
-const WALL: &[u8] =
+// 1 m² of 200 mm.
+pub(crate) const WALL: &[u8] =
     b"detail,1,3\nenv,inside\nenv,outside\nmat,wall,1\nsolid,wall,0.1,200.1,0,1000,0,1000\n\
 air,inside,0.13,0,0.1,0,1000,0,1000\nair,outside,0.04,200.1,200.2,0,1000,0,1000\n";
 
-const TURNED: &[u8] =
-    b"detail,1,3\nenv,inside\nenv,outside\nmat,wall,1\nsolid,wall,0.1,200.1,0,1000,0,1000\n\
-air,inside,0.04,0,0.1,0,1000,0,1000\nair,outside,0.13,200.1,200.2,0,1000,0,1000\n";
-
-// Two arms of two materials round an inner corner, with two outer surfaces that differ.
-const CORNER: &[u8] =
-    b"detail,1,2\nenv,inside\nenv,outside\nmat,stone,2\nmat,wool,0.04\nsolid,stone,1,11,1,4\n\
-solid,wool,1,5,4,14\nair,inside,0.13,5,11,4,14\nair,outside,0.04,0,1,0,14\nair,outside,0.07,1,11,0,1\n";
-
-// The field that falls in straight lines, on the wall and on the wall with a line in its middle.
-const FALLING: [i64; 16] = [
-    0, 64864865, 10810811, 0, 0, 64864865, 10810811, 0, 0, 64864865, 10810811, 0, 0, 64864865,
-    10810811, 0,
-];
-
-const FALLING_IN_TWO: [i64; 20] = [
-    0, 64864865, 37837838, 10810811, 0, 0, 64864865, 37837838, 10810811, 0, 0, 64864865, 37837838,
-    10810811, 0, 0, 64864865, 37837838, 10810811, 0,
-];
-
-// Node n has the value 7919·(n+3)·(n+5).
-const UNEVEN: [i64; 32] = [
-    118785, 190056, 277165, 380112, 498897, 633520, 783981, 950280, 1132417, 1330392, 1544205,
-    1773856, 2019345, 2280672, 2557837, 2850840, 3159681, 3484360, 3824877, 4181232, 4553425,
-    4941456, 5345325, 5765032, 6200577, 6651960, 7119181, 7602240, 8101137, 8615872, 9146445,
-    9692856,
-];
-
 // Fluxes through the wall: straight, one with heat through two adiabatic faces, and one that loses 1 nW in the first of
 // two halves and gains it in the second.
-const STRAIGHT: [i64; 16] = [
+pub(crate) const STRAIGHT: [i64; 16] = [
     0, 0, 0, 0, 2702702702, 2702702702, 0, 0, 0, 0, 0, 0, 0, 0, 0, 0,
 ];
 
@@ -58,7 +28,7 @@ const UNBALANCED: [i64; 21] = [
     0, 0, 0, 0, 0, 2702702702, 2702702703, 2702702702, 0, 0, 0, 0, 0, 0, 0, 0, 0, 0, 0, 0, 0,
 ];
 
-fn body(alloc: Global, text: &[u8]) -> Result<Body, Fail>
+pub(crate) fn body(alloc: Global, text: &[u8]) -> Result<Body, Fail>
     requires { length text.now ≤ 1000 }
 {
     match read_detail(alloc, text) {
@@ -68,7 +38,7 @@ fn body(alloc: Global, text: &[u8]) -> Result<Body, Fail>
 }
 
 // The wall's grid with a line in its middle.
-fn halved(alloc: Global) -> Result<Grid, Fail> {
+pub(crate) fn halved(alloc: Global) -> Result<Grid, Fail> {
     let x = axis(alloc, &[0, 1, 1_001, 2_001, 2_002])?;
     let y = axis(alloc, &[0, 10_000])?;
     let z = axis(alloc, &[0, 10_000])?;
@@ -76,20 +46,6 @@ fn halved(alloc: Global) -> Result<Grid, Fail> {
         Ok(grid) => Ok(grid),
         Err(_) => Err(Fail::from("no grid")),
     }
-}
-
-// The upper end of the field with these temperatures on a grid, if they are a field on a grid that carries the body.
-fn upper(body: &Body, grid: &Grid, temperatures: &[i64], mask: u8) -> Option<i128> {
-    if !body.carries(grid) {
-        return None;
-    }
-    if temperatures.len() != grid.nodes() as usize {
-        return None;
-    }
-    if !are_temperatures(temperatures) {
-        return None;
-    }
-    Some(upper_end(body, grid, temperatures, Case { mask }))
 }
 
 // Whether these are the first faults of a flux on a grid that carries the body.
@@ -107,33 +63,6 @@ fn has_faults(
         return false;
     }
     flux.first_outer(body, grid) == outer && flux.first_unbalanced(body, grid) == unbalanced
-}
-
-#[test]
-fn upper_ends_of_a_wall(rt: HostRuntime) -> Result<(), Fail> {
-    let wall = body(rt.alloc(), WALL)?;
-    assert!(rt; upper(&wall, wall.base(), &[0; 16], 1) == Some(7692307692307693));
-    assert!(rt; upper(&wall, wall.base(), &FALLING, 1) == Some(2702702702702704));
-    let grid = halved(rt.alloc())?;
-    assert!(rt; upper(&wall, &grid, &FALLING_IN_TWO, 1) == Some(2702702702702704));
-    Ok(())
-}
-
-#[test]
-fn upper_end_of_a_turned_wall(rt: HostRuntime) -> Result<(), Fail> {
-    let wall = body(rt.alloc(), TURNED)?;
-    assert!(rt; upper(&wall, wall.base(), &FALLING, 1) == Some(4637017451340115));
-    Ok(())
-}
-
-#[test]
-fn upper_ends_of_a_corner(rt: HostRuntime) -> Result<(), Fail> {
-    let corner = body(rt.alloc(), CORNER)?;
-    assert!(rt; upper(&corner, corner.base(), &UNEVEN, 0) == Some(2397959356609));
-    assert!(rt; upper(&corner, corner.base(), &UNEVEN, 1) == Some(113478206587379));
-    assert!(rt; upper(&corner, corner.base(), &UNEVEN, 2) == Some(432723567356610));
-    assert!(rt; upper(&corner, corner.base(), &UNEVEN, 3) == Some(543803814587380));
-    Ok(())
 }
 
 #[test]

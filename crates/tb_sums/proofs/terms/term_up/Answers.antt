@@ -1,8 +1,8 @@
-use Rattle.std.proofs.Common.{◌≡◌, ◌∙◌, ◌<◌, ◌≤◌, ap, sym, subst, ℕ, ℤ, pos}
+use Rattle.std.proofs.Common.{◌≡◌, ◌∙◌, ap, sym, ℕ, ℤ, pos}
 use Rattle.std.proofs.lemmas.Int.{to_z-of_z}
 use Rattle.std.specs.Int.{w128, div_ceil}
 use lib.IntN.{nat_abs}
-use Rattle.tb_math.specs.Rational.{ℚ, int, ◌*ℚ◌}
+use Rattle.tb_math.specs.Rational.{int, ◌*ℚ◌}
 use Rattle.tb_math.specs.Ceiling.{ceiling}
 use Rattle.tb_sums.proofs.RoundedTerms.{at_most, rounded_term}
 use Rattle.tb_sums.proofs.terms.term_up.Goals as goal

@@ -2,12 +2,14 @@ use Rattle.std.proofs.Common.{◌≡◌, ◌*◌, ◌^◌, ◌≤◌, get_or, po
 use Rattle.tb_places.specs.declared.AxisName.TheVariants.{X}
 use Rattle.tb_grid.specs.Axis.{IsLineAt}
 use Rattle.tb_geometry.specs.Base.{base_lines}
-use Rattle.tb_sums.specs.BodyFields.{cells_up}
+use Rattle.tb_rows.specs.Rows.{mesh_under}
+use Rattle.tb_rows.specs.Sums.{cells_up}
+use Rattle.tb_sums.specs.BodyFields.{terms_under}
 use Rattle.tb_sums.proofs.energy.BodyField.row.Given as goal
 
 abbrev pub invariant-loop-b : goal.invariant-loop-b
 invariant-loop-b l = record {
-  at : IsLineAt l.self.grid.now.x (get_or (base_lines X l.self.body.now.boxes) l.b 0) l.from;
-  value : pos l.total ≡ cells_up l.self l.j l.k l.from;
+  at : IsLineAt l.self.rows.grid.now.x (get_or (base_lines X l.self.rows.body.now.boxes) l.b 0) l.from;
+  value : pos l.total ≡ cells_up (mesh_under l.self.rows) (terms_under l.self) l.j l.k l.from;
   most : l.total ≤ l.from * 10 ^ 26;
 }

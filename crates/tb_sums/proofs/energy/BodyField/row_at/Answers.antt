@@ -1,6 +1,6 @@
 use Rattle.std.proofs.Common.{ℕ, ◌≤◌, List, arith, length, sym, subst, ap, ◌∙◌}
-use Rattle.tb_sums.specs.NodeRows.{AreWidths}
-use Rattle.tb_sums.proofs.Grids.{widths_fit}
+use Rattle.tb_rows.specs.Widths.{AreWidths}
+use Rattle.tb_rows.proofs.Grids.{widths_fit}
 use Rattle.tb_sums.proofs.energy.BodyField.row_at.Goals as goal
 
 pub invariant_of-result : goal.invariant_of-result
@@ -12,7 +12,7 @@ invariant_of-result c =
     let e = ap length (l ∙ x) in
     let least2 = subst (λ (lines : List ℕ). 2 ≤ length lines) x least in
     record {
-      widths = subst (λ (lines : List ℕ). AreWidths lines) (sym (l ∙ x)) (widths_fit f.body.now f.grid.now h.limits h.carries);
+      widths = subst (λ (lines : List ℕ). AreWidths lines) (sym (l ∙ x)) (widths_fit f.rows.body.now f.rows.grid.now h.rows.limits h.rows.carries);
       t00 = omega (arith, n.t00.count, e, least2);
       t10 = omega (arith, n.t10.count, e, least2);
       t01 = omega (arith, n.t01.count, e, least2);
