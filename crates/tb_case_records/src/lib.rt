@@ -23,6 +23,7 @@ mod axis;
 mod case;
 mod ends;
 mod fault;
+mod fault_text;
 mod reader;
 mod rows;
 mod values;

@@ -1,2 +1,3 @@
 pub mod Contents
 pub mod Faults
+pub mod Texts

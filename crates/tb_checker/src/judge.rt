@@ -9,9 +9,10 @@ ghost use Rattle.tb_checker.specs.Contents.{IsJudgeable, IsJudgedRightly, IsNarr
 ghost use Rattle.tb_checker.specs.Faults.{OfCase, OfClaims, OfEnds};
 
 use crate::fault::CheckFault;
-use crate::stub::{lower_end, upper_end};
+
 use tb_bundle::{CaseProof, Verdict};
 use tb_geometry::Body;
+use tb_sums::{lower_end, upper_end};
 use tb_terms::Interval;
 
 fn is_same(claimed: Interval, found: Interval) -> bool

@@ -5,8 +5,10 @@ mod checked;
 mod checking;
 mod fault;
 mod judge;
-mod stub;
+mod names;
+mod texts;
 
 pub use checked::Checked;
 pub use checking::check;
 pub use fault::{CheckFault, CheckRefusal};
+pub use names::put_set_name;

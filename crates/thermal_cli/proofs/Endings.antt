@@ -21,10 +21,8 @@ abbrev pub IsEndingOf : Command → Status → Type 0
 IsEndingOf c s = (s ≡ status.Fine) ⊎ ((s ≡ status.Refused) ⊎ ((s ≡ status.WidthNotReached) ⊎ ((s ≡ status.CertificateRefused) × (c ≡ Check))))
 
 check_ends : (a : CheckAnswer) → IsEndingOf Check (check_status a)
-check_ends check.NotFormat = inr (inr (inr (refl, refl)))
-check_ends (check.Unbalanced cell sum) = inr (inr (inr (refl, refl)))
-check_ends (check.IntervalDiffers claimed found) = inr (inr (inr (refl, refl)))
-check_ends (check.Accepted interval) = inl refl
+check_ends (check.Fault f) = inr (inr (inr (refl, refl)))
+check_ends (check.Accepted b) = inl refl
 
 solve_ends : (o : SolveOptions) (a : SolveAnswer) → IsEndingOf (Solve o) (solve_status a)
 solve_ends o a = inr (inl refl)

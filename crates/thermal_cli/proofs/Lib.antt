@@ -1,12 +1,3 @@
 pub mod Commands
 pub mod Endings
-pub mod Fields
 pub mod Runs
-pub mod WallBalance
-pub mod WallCells
-pub mod WallEnds
-pub mod WallGrid
-pub mod WallLimits
-pub mod WallSound
-pub mod WallTerms
-pub mod WallAnswers

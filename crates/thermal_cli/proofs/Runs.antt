@@ -3,7 +3,7 @@ use Rattle.std.proofs.Common.{◌≡◌, ◌<◌, ◌≤◌, ◌+◌, ◌⊎◌,
 use Rattle.tb_outside.specs.Faults.{Rose, Stands}
 use Rattle.tb_outside.specs.Limits.{most_input_bytes}
 use Rattle.tb_outside.specs.Outside.{Adds, IsAtEnd, Takes, TakesExactly}
-use Rattle.tb_terms.specs.declared.Interval.{Interval}
+use Rattle.tb_bundle.specs.declared.bundle.Bundle.{Bundle}
 use Rattle.thermal_cli.specs.declared.answer.Answer.{Answer}
 use Rattle.thermal_cli.specs.declared.check.CheckAnswer.{CheckAnswer}
 use Rattle.thermal_cli.specs.declared.check.CheckAnswer.TheVariants as check
@@ -49,13 +49,14 @@ by_check c s (inr (inl a)) e = cc (a, e)
 by_check c s (inr (inr (inl a))) e = cc (a, e)
 by_check c s (inr (inr (inr a))) e = a.1
 
+not_fine : status.Fine ≡ status.CertificateRefused → ⊥
+not_fine e = cc e
+
 -- what `check` accepts
 accepted : (bytes : List ℕ) (a : CheckAnswer) (holds_old holds_new : Option (List ℕ)) → CheckAnswers bytes a → status.Fine ≡ check_status a → Adds holds_old holds_new (check_text a)
-    → (i : Interval) × CheckAnswers bytes (check.Accepted i) × Adds holds_old holds_new (check_text (check.Accepted i))
-accepted bytes check.NotFormat holds_old holds_new h e w = cc e
-accepted bytes (check.Unbalanced cell sum) holds_old holds_new h e w = cc e
-accepted bytes (check.IntervalDiffers claimed found) holds_old holds_new h e w = cc e
-accepted bytes (check.Accepted i) holds_old holds_new h e w = (i, h, w)
+    → (b : Bundle) × CheckAnswers bytes (check.Accepted b) × Adds holds_old holds_new (check_text (check.Accepted b))
+accepted bytes (check.Fault f) holds_old holds_new h e w = absurd (not_fine e)
+accepted bytes (check.Accepted b) holds_old holds_new h e w = (b, h, w)
 
 -- ---- what each status says
 

@@ -1,9 +1,5 @@
 pub mod Statuses
 pub mod Words
-pub mod Form
-pub mod Slots
-pub mod Wall
-pub mod Limits
 pub mod Details
 pub mod Messages
 pub mod Check

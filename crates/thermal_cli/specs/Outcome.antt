@@ -4,7 +4,7 @@ use Rattle.tb_outside.specs.Faults.{Rose, Stands}
 use Rattle.tb_outside.specs.Limits.{most_input_bytes}
 use Rattle.tb_outside.specs.Outside.{Adds, IsAtEnd, Takes, TakesAtMost, TakesExactly, WritesFront}
 use Rattle.thermal_cli.specs.declared.answer.Answer.{Answer}
-use Rattle.tb_terms.specs.declared.Interval.{Interval}
+use Rattle.tb_bundle.specs.declared.bundle.Bundle.{Bundle}
 use Rattle.thermal_cli.specs.declared.check.CheckAnswer.TheVariants.{Accepted}
 use Rattle.thermal_cli.specs.declared.status.Status.{Status}
 use Rattle.thermal_cli.specs.declared.status.Status.TheVariants as status
@@ -68,7 +68,8 @@ abbrev pub IsAnswered : (words : List (List ℕ)) (left_old left_new holds_old h
 IsAnswered words left_old left_new holds_old holds_new s =
     (c : Command) × Names words c × (bytes : List ℕ) × IsRead left_old left_new bytes × TellsOf c bytes holds_old holds_new s
 
--- the source was read to its end, `check` accepts its bytes, and the interval that it thereby certifies was written
+-- the source was read to its end, `check` accepts its bytes as a bundle, and the intervals that it thereby certifies were
+-- written
 abbrev pub TellsAccepted : (left_old left_new holds_old holds_new : Option (List ℕ)) → Type 0
 TellsAccepted left_old left_new holds_old holds_new =
-    (bytes : List ℕ) × IsRead left_old left_new bytes × (i : Interval) × CheckAnswers bytes (Accepted i) × Adds holds_old holds_new (check_text (Accepted i))
+    (bytes : List ℕ) × IsRead left_old left_new bytes × (b : Bundle) × CheckAnswers bytes (Accepted b) × Adds holds_old holds_new (check_text (Accepted b))

@@ -7,15 +7,12 @@
 
 mod answer;
 mod check;
-mod form;
 mod message;
 mod solve;
 mod status;
 mod told;
 mod top;
 mod uvalue;
-mod wall;
-mod wall_ends;
 mod words;
 
 pub use answer::Answer;

@@ -38,7 +38,7 @@ fn work<S: Source>(alloc: Global, words: &[String], source: &mut S) -> Told
 
 /// Runs the program on these words, which don't begin with the program's name.
 ///
-/// `check` reads a bundle from the source, and writes the interval that it certifies. `solve` reads a detail and tells
+/// `check` reads a bundle from the source, and writes the intervals that it certifies. `solve` reads a detail and tells
 /// its first fault, that of its body, or why its level grid is too large; solving comes later, so any other body is
 /// refused as not built. `uvalue` reads a detail, and writes the U-values of its parts. `check` and `uvalue` are the
 /// only word; behind `solve` stand its options, each a name and a value: `--width`, `--grade`, `--halve`, `--sweeps`.
@@ -87,7 +87,8 @@ pub fn run<S: Source, K: Sink>(
     ensures fine { result ≡ Status.Fine → IsAnswered (map string_bytes words.now) (S.left source.old) (S.left source.new)
         (K.holds sink.old) (K.holds sink.new) Status.Fine }
 
-    // A bundle that `check` accepts is a wall's, and the interval that is written is sound on every refinement of the wall.
+    // The intervals that are written of a bundle that `check` accepts are those of its fields and its balanced fluxes, and
+    // each is sound on every refinement of the body.
     ensures certified { result ≡ Status.Fine → Names (map string_bytes words.now) Command.Check
         → TellsAccepted (S.left source.old) (S.left source.new) (K.holds sink.old) (K.holds sink.new) }
     ensures certificate_refused { result ≡ Status.CertificateRefused
