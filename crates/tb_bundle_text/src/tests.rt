@@ -18,90 +18,88 @@ t,0,64864865,10810811,0\nt,0,64864865,10810811,0\nt,0,64864865,10810811,0\nt,0,6
 fz,0,0,0\nfx,0,2702702702,2702702702,0\nfy,0,0,0\nfy,0,0,0\nfz,0,0,0\n\
 interval,2702702702702700,2702702702702704\nverdict,grid,0\nend\n";
 
-// The records of the wall from one number to another are replaced by others, with a semicolon for the end of a line.
-// `Ok` where the bundle is that of the wall, `Other` where it is another one with this text as its canonical one, else
-// the first fault.
-const ANSWERS: [(u32, u32, &str, &str); 78] = [
-    (1, 0, "", "Ok"),
-    (1, 24, "", "NotFormat 1"),
-    (1, 24, "# a remark;#", "NotFormat 1"),
-    (1, 1, "# a remark;bundle,2", "NotFormat 2"),
-    (1, 1, "bundle,1,x", "NotFormat 1"),
-    (1, 1, "", "NotFormat 1"),
-    (2, 8, "", "Detail NotFormat 2 0"),
-    (2, 24, "#", "Detail NotFormat 3 0"),
-    (5, 5, "mat,wall,x", "Detail BadNumber 5 3"),
-    (8, 8, "#;walls", "Detail UnknownKind 9 0"),
-    (9, 9, "cases,inside", "Detail UnknownKind 9 0"),
-    (3, 8, "env,inside", "Shape 4"),
-    (3, 24, "env,inside", "NoEnd"),
-    (6, 8, "", "Shape 7"),
-    (9, 9, "case,outside", "Shape 9"),
-    (9, 9, "case,inside,outside", "Shape 9"),
-    (9, 9, "case", "Shape 9"),
-    (9, 9, "case,inside;case,inside", "Shape 10"),
-    (9, 23, "", "Shape 9"),
-    (10, 10, "y,0,1000", "Shape 10"),
-    (10, 10, "x,q", "Shape 10"),
-    (10, 10, "x", "Shape 10"),
-    (10, 10, "x,0,0.1,200.1,200.25", "BadNumber 10 5"),
-    (10, 10, "x,0,0.1,,200.2,0", "BadNumber 10 4"),
-    (10, 10, "x,0,-0.1,200.1,200.2", "BadNumber 10 3"),
-    (10, 10, "x,0,0.1,200.1,50000.1", "ValueOutOfRange 10 5"),
-    (10, 10, "x,0,0.1,200.1,200.1", "NotRising 10 5"),
-    (10, 10, "x,0,0.1,0.1,x", "NotRising 10 4"),
-    (10, 10, "x,0,0.1,200.1,200.2,200.3", "LineOutside 10 6"),
-    (10, 10, "x,0,300,200,x", "LineOutside 10 3"),
-    (10, 11, "x,0,0.1,200.2;y,x", "LineMissing 1 X 2001"),
-    (11, 11, "y,0.1,1000", "LineMissing 1 Y 0"),
-    (12, 12, "z,0,999.9", "LineMissing 1 Z 10000"),
-    (12, 12, "z,0,1000.1", "LineOutside 12 3"),
-    (13, 13, "t,0,64864865,10810811", "Shape 13"),
-    (13, 13, "t,0,64864865,10810811,0,0", "Shape 13"),
-    (13, 16, "t,0,64864865,10810811,0;t,0,64864865,10810811,0;t,0,64864865,10810811,0", "Shape 16"),
-    (17, 16, "t,0,64864865,10810811,0", "Shape 17"),
-    (13, 13, "fx,0,0,0,0", "Shape 13"),
-    (13, 13, "t,0,64864865,10810811,-1", "BadNumber 13 5"),
-    (13, 14, "t,0,1.0,100000001,0;t", "BadNumber 13 3"),
-    (16, 17, "t,0,64864865,10810811,100000001;fz,x,0,0", "ValueOutOfRange 16 5"),
-    (13, 13, "t,100000000,64864865,10810811,0", "Other"),
-    (17, 18, "fx,0,2702702702,2702702702,0;fz,0,0,0", "Shape 17"),
-    (17, 17, "fz,0,0,1000000000001", "ValueOutOfRange 17 4"),
-    (18, 18, "fx,0,1000000000001,2702702702,x", "ValueOutOfRange 18 3"),
-    (18, 18, "fx,0,-1000000000001,0,0", "ValueOutOfRange 18 3"),
-    (18, 18, "fx,0,1000000000000,-1000000000000,0", "Other"),
-    (18, 18, "fx,0,2702702702,2702702702", "Shape 18"),
-    (18, 24, "fx,0,27", "Shape 18"),
-    (19, 20, "fy,0,0,0", "Shape 20"),
-    (20, 20, "fy,0,0,--1", "BadNumber 20 4"),
-    (21, 21, "", "Shape 21"),
-    (22, 22, "interval,2702702702702700", "Shape 22"),
-    (22, 22, "interval,1e3,x", "BadNumber 22 2"),
-    (22, 22, "interval,0,100000000000000000000000000000000000000", "BadNumber 22 3"),
-    (22, 22, "interval,-99999999999999999999999999999999999999,99999999999999999999999999999999999999", "Other"),
-    (22, 22, "interval,-368000000000000000000,2702702702702704", "Other"),
-    (23, 23, "verdict,walls,x", "Shape 23"),
-    (23, 23, "verdict,grid", "Shape 23"),
-    (23, 23, "verdict,grid,-1", "BadNumber 23 3"),
-    (23, 23, "verdict,grid,1000000001", "ValueOutOfRange 23 3"),
-    (23, 23, "verdict,done,1000000000", "Other"),
-    (23, 23, "verdict,sweeps,7", "Other"),
-    (23, 24, "", "NoEnd"),
-    (24, 24, "end,x", "Shape 24"),
-    (24, 24, "en", "Shape 24"),
-    (24, 24, "# the end", "NoEnd"),
-    (25, 24, "end", "Shape 25"),
-    (25, 24, "# a remark;case,inside", "Shape 26"),
-    (25, 24, "# a remark", "Ok"),
-    (10, 10, "#;\"x\",0,0.1,0200.1,200.2;# a;#", "Ok"),
-    (9, 9, "\"case\",\"inside\"\r", "Ok"),
-    (18, 19, "fx,-0,2702702702,02702702702,0;# a remark;;fy,0,-0,0", "Ok"),
-    (22, 22, "interval,002702702702702700,2702702702702704", "Ok"),
-    (5, 5, "mat,wall,1.000", "Ok"),
-    (2, 2, "#;detail,1,3;#", "Ok"),
-    (3, 4, "env,outside;env,inside", "Shape 9"),
-];
-
+// So many records of the wall, other records with a semicolon for the end of a line, the records of the wall behind so
+// many of them, and the answer: `Ok` where the bundle is that of the wall, `Other` where it is another one with this
+// text as its canonical one, else the first fault.
+const ANSWERS: &str = "\
+0||0|Ok\n\
+0||24|NotFormat 1\n\
+0|# a remark;#|24|NotFormat 1\n\
+0|# a remark;bundle,2|1|NotFormat 2\n\
+0|bundle,1,x|1|NotFormat 1\n\
+0||1|NotFormat 1\n\
+1||8|Detail NotFormat 2 0\n\
+1|#|24|Detail NotFormat 3 0\n\
+4|mat,wall,x|5|Detail BadNumber 5 3\n\
+7|#;walls|8|Detail UnknownKind 9 0\n\
+8|cases,inside|9|Detail UnknownKind 9 0\n\
+2|env,inside|8|Shape 4\n\
+2|env,inside|24|NoEnd\n\
+5||8|Shape 7\n\
+8|case,outside|9|Shape 9\n\
+8|case,inside,outside|9|Shape 9\n\
+8|case|9|Shape 9\n\
+8|case,inside;case,inside|9|Shape 10\n\
+8||23|Shape 9\n\
+9|y,0,1000|10|Shape 10\n\
+9|x,q|10|Shape 10\n\
+9|x|10|Shape 10\n\
+9|x,0,0.1,200.1,200.25|10|BadNumber 10 5\n\
+9|x,0,0.1,,200.2,0|10|BadNumber 10 4\n\
+9|x,0,-0.1,200.1,200.2|10|BadNumber 10 3\n\
+9|x,0,0.1,200.1,50000.1|10|ValueOutOfRange 10 5\n\
+9|x,0,0.1,200.1,200.1|10|NotRising 10 5\n\
+9|x,0,0.1,0.1,x|10|NotRising 10 4\n\
+9|x,0,0.1,200.1,200.2,200.3|10|LineOutside 10 6\n\
+9|x,0,300,200,x|10|LineOutside 10 3\n\
+9|x,0,0.1,200.2;y,x|11|LineMissing 1 X 2001\n\
+10|y,0.1,1000|11|LineMissing 1 Y 0\n\
+11|z,0,999.9|12|LineMissing 1 Z 10000\n\
+11|z,0,1000.1|12|LineOutside 12 3\n\
+12|t,0,64864865,10810811|13|Shape 13\n\
+12|t,0,64864865,10810811,0,0|13|Shape 13\n\
+12|t,0,64864865,10810811,0;t,0,64864865,10810811,0;t,0,64864865,10810811,0|16|Shape 16\n\
+16|t,0,64864865,10810811,0|16|Shape 17\n\
+12|fx,0,0,0,0|13|Shape 13\n\
+12|t,0,64864865,10810811,-1|13|BadNumber 13 5\n\
+12|t,0,1.0,100000001,0;t|14|BadNumber 13 3\n\
+15|t,0,64864865,10810811,100000001;fz,x,0,0|17|ValueOutOfRange 16 5\n\
+12|t,100000000,64864865,10810811,0|13|Other\n\
+16|fx,0,2702702702,2702702702,0;fz,0,0,0|18|Shape 17\n\
+16|fz,0,0,1000000000001|17|ValueOutOfRange 17 4\n\
+17|fx,0,1000000000001,2702702702,x|18|ValueOutOfRange 18 3\n\
+17|fx,0,-1000000000001,0,0|18|ValueOutOfRange 18 3\n\
+17|fx,0,1000000000000,-1000000000000,0|18|Other\n\
+17|fx,0,2702702702,2702702702|18|Shape 18\n\
+17|fx,0,27|24|Shape 18\n\
+18|fy,0,0,0|20|Shape 20\n\
+19|fy,0,0,--1|20|BadNumber 20 4\n\
+20||21|Shape 21\n\
+21|interval,2702702702702700|22|Shape 22\n\
+21|interval,1e3,x|22|BadNumber 22 2\n\
+21|interval,0,100000000000000000000000000000000000000|22|BadNumber 22 3\n\
+21|interval,-99999999999999999999999999999999999999,99999999999999999999999999999999999999|22|Other\n\
+21|interval,-368000000000000000000,2702702702702704|22|Other\n\
+22|verdict,walls,x|23|Shape 23\n\
+22|verdict,grid|23|Shape 23\n\
+22|verdict,grid,-1|23|BadNumber 23 3\n\
+22|verdict,grid,1000000001|23|ValueOutOfRange 23 3\n\
+22|verdict,done,1000000000|23|Other\n\
+22|verdict,sweeps,7|23|Other\n\
+22||24|NoEnd\n\
+23|end,x|24|Shape 24\n\
+23|en|24|Shape 24\n\
+23|# the end|24|NoEnd\n\
+24|end|24|Shape 25\n\
+24|# a remark;case,inside|24|Shape 26\n\
+24|# a remark|24|Ok\n\
+9|#;\"x\",0,0.1,0200.1,200.2;# a;#|10|Ok\n\
+8|\"case\",\"inside\"\r|9|Ok\n\
+17|fx,-0,2702702702,02702702702,0;# a remark;;fy,0,-0,0|19|Ok\n\
+21|interval,002702702702702700,2702702702702704|22|Ok\n\
+4|mat,wall,1.000|5|Ok\n\
+1|#;detail,1,3;#|2|Ok\n\
+2|env,outside;env,inside|4|Shape 9";
 fn append(text: &mut Vec<u8>, records: &str) -> Result<(), AllocError> {
     for byte in records.bytes() {
         text.push(if byte == b';' { b'\n' } else { byte })?;
@@ -109,28 +107,18 @@ fn append(text: &mut Vec<u8>, records: &str) -> Result<(), AllocError> {
     Ok(())
 }
 
-// The text of the wall with other records in the place of some.
-fn edited(alloc: Global, from: u32, to: u32, records: &str) -> Result<Vec<u8>, AllocError> {
+// The text of so many records of the wall, of other records, and of those of the wall behind so many of them.
+fn edited(alloc: Global, before: usize, records: &str, behind: usize) -> Result<Vec<u8>, AllocError> {
     let mut text = Vec::new(alloc);
-    let mut number = 0;
-    for line in WALL.lines() {
-        number += 1;
-        if number < from {
-            append(&mut text, line)?;
-            text.push(b'\n')?;
-        }
-    }
-    if !records.is_empty() {
-        append(&mut text, records)?;
+    for line in WALL.lines().take(before) {
+        append(&mut text, line)?;
         text.push(b'\n')?;
     }
-    number = 0;
-    for line in WALL.lines() {
-        number += 1;
-        if number >= from && number > to {
-            append(&mut text, line)?;
-            text.push(b'\n')?;
-        }
+    append(&mut text, records)?;
+    text.push(b'\n')?;
+    for line in WALL.lines().skip(behind) {
+        append(&mut text, line)?;
+        text.push(b'\n')?;
     }
     Ok(text)
 }
@@ -200,13 +188,24 @@ fn answer(alloc: Global, text: &[u8]) -> Result<String, &'static str>
     }
 }
 
+// The text that a line of the table gives, and the answer that it wants.
+fn case_of(alloc: Global, line: &str) -> Option<(Vec<u8>, &str)> {
+    let (before, rest) = line.split_once('|')?;
+    let (records, rest) = rest.split_once('|')?;
+    let (behind, want) = rest.split_once('|')?;
+    let before = before.parse().ok()?;
+    let behind = behind.parse().ok()?;
+    let text = edited(alloc, before, records, behind).ok()?;
+    Some((text, want))
+}
+
 #[test]
 fn answers(rt: HostRuntime) -> Result<(), Fail> {
-    for (from, to, records, want) in ANSWERS {
-        let text = edited(rt.alloc(), from, to, records)?;
+    for line in ANSWERS.lines() {
+        let (text, want) = case_of(rt.alloc(), line).ok_or("no case")?;
         assert!(rt; text.len() <= 10_000);
         let found = answer(rt.alloc(), &text)?;
-        assert!(rt; found.as_str() == want, "{from} {to} {records}: {found}");
+        assert!(rt; found.as_str() == want, "{line}: {found}");
     }
     Ok(())
 }
