@@ -11,7 +11,8 @@ use tb_outside::MemorySink;
 use tb_places::AxisName;
 
 // A wall of 200 mm between two environments, with its linear field and its flux; its own canonical text.
-const WALL: &str = "bundle,1\ndetail,1,3\nenv,inside\nenv,outside\nmat,wall,1\nsolid,wall,0.1,200.1,0,1000,0,1000\n\
+const WALL: &str =
+    "bundle,1\ndetail,1,3\nenv,inside\nenv,outside\nmat,wall,1\nsolid,wall,0.1,200.1,0,1000,0,1000\n\
 air,inside,0.13,0,0.1,0,1000,0,1000\nair,outside,0.04,200.1,200.2,0,1000,0,1000\n\
 case,inside\nx,0,0.1,200.1,200.2\ny,0,1000\nz,0,1000\n\
 t,0,64864865,10810811,0\nt,0,64864865,10810811,0\nt,0,64864865,10810811,0\nt,0,64864865,10810811,0\n\
@@ -23,6 +24,8 @@ interval,2702702702702700,2702702702702704\nverdict,grid,0\nend\n";
 // text as its canonical one, else the first fault.
 const ANSWERS: &str = "\
 0||0|Ok\n\
+12|t,0,0,0,0;t,0,0,0,0;t,0,0,0,0;t,0,0,0,0;fz,0,0,0;fx,0,0,0,0;fy,0,0,0;fy,0,0,0;fz,0,0,0;interval,0,7692307692307693;\
+verdict,sweeps,0|23|Other\n\
 0||24|NotFormat 1\n\
 0|# a remark;#|24|NotFormat 1\n\
 0|# a remark;bundle,2|1|NotFormat 2\n\
@@ -100,6 +103,7 @@ const ANSWERS: &str = "\
 4|mat,wall,1.000|5|Ok\n\
 1|#;detail,1,3;#|2|Ok\n\
 2|env,outside;env,inside|4|Shape 9";
+
 fn append(text: &mut Vec<u8>, records: &str) -> Result<(), AllocError> {
     for byte in records.bytes() {
         text.push(if byte == b';' { b'\n' } else { byte })?;
@@ -108,7 +112,12 @@ fn append(text: &mut Vec<u8>, records: &str) -> Result<(), AllocError> {
 }
 
 // The text of so many records of the wall, of other records, and of those of the wall behind so many of them.
-fn edited(alloc: Global, before: usize, records: &str, behind: usize) -> Result<Vec<u8>, AllocError> {
+fn edited(
+    alloc: Global,
+    before: usize,
+    records: &str,
+    behind: usize,
+) -> Result<Vec<u8>, AllocError> {
     let mut text = Vec::new(alloc);
     for line in WALL.lines().take(before) {
         append(&mut text, line)?;
@@ -207,5 +216,119 @@ fn answers(rt: HostRuntime) -> Result<(), Fail> {
         let found = answer(rt.alloc(), &text)?;
         assert!(rt; found.as_str() == want, "{line}: {found}");
     }
+    Ok(())
+}
+
+#[test]
+fn a_bundle_without_its_last_records(rt: HostRuntime) -> Result<(), Fail> {
+    for count in 2..24 {
+        let text = edited(rt.alloc(), count, "", 24)?;
+        assert!(rt; text.len() <= 10_000);
+        let found = answer(rt.alloc(), &text)?;
+        assert!(rt; found.as_str() == "NoEnd", "{count}: {found}");
+    }
+    Ok(())
+}
+
+// Appends the record of an axis: some lines, those from 0.2 mm to below this one, each 0.1 mm, and some more.
+fn append_axis(
+    alloc: Global,
+    text: &mut Vec<u8>,
+    first: &str,
+    end: u32,
+    last: &str,
+) -> Result<(), AllocError> {
+    append(text, first)?;
+    for line in 2..end {
+        let line = format!(in alloc; ",{}.{}", line / 10, line % 10)?;
+        append(text, line.as_str())?;
+    }
+    append(text, last)
+}
+
+// The wall on a grid of so many lines and two more along x, and of so many and one more along y.
+fn on_grid(alloc: Global, x: u32, y: u32) -> Result<Vec<u8>, AllocError> {
+    let mut axes = Vec::new(alloc);
+    append_axis(alloc, &mut axes, "x,0,0.1", x, ",200.1,200.2;")?;
+    append_axis(alloc, &mut axes, "y,0,0.1", y, ",1000;z,0,1000;")?;
+    let mut text = Vec::new(alloc);
+    for line in WALL.lines().take(9) {
+        append(&mut text, line)?;
+        text.push(b'\n')?;
+    }
+    text.extend_from_slice(&axes)?;
+    append(&mut text, "t,0")?;
+    Ok(text)
+}
+
+// 1,024 lines and one more; 262,144 cells and one more. The rows behind don't fit these grids.
+const GRIDS: [(u32, u32, &str); 4] = [
+    (1022, 2, "Shape 13"),
+    (1023, 2, "GridTooLarge 10"),
+    (511, 512, "Shape 13"),
+    (544, 481, "GridTooLarge 12"),
+];
+
+#[test]
+fn large_grids(rt: HostRuntime) -> Result<(), Fail> {
+    for (x, y, want) in GRIDS {
+        let text = on_grid(rt.alloc(), x, y)?;
+        assert!(rt; text.len() <= 10_000);
+        let found = answer(rt.alloc(), &text)?;
+        assert!(rt; found.as_str() == want, "{x} {y}: {found}");
+    }
+    Ok(())
+}
+
+// Four environments in two dimensions: the records before the cases, and those of each case behind its first.
+const FOUR: &str =
+    "bundle,1;detail,1,2;env,a;env,b;env,c;env,d;mat,m,1;air,a,1,0,0.1,0,0.1;solid,m,0.1,0.2,0,0.1;\
+air,b,1,0.2,0.3,0,0.1;air,c,1,0.3,0.4,0,0.1;air,d,1,0.4,0.5,0,0.1;";
+
+const ZEROS: &str =
+    ";x,0,0.1,0.2,0.3,0.4,0.5;y,0,0.1;z,0,1000;t,0,0,0,0,0,0;t,0,0,0,0,0,0;t,0,0,0,0,0,0;t,0,0,0,0,0,0;\
+fz,0,0,0,0,0;fx,0,0,0,0,0,0;fy,0,0,0,0,0;fy,0,0,0,0,0;fz,0,0,0,0,0;interval,0,0;verdict,done,0;";
+
+// The four environments with cases of these sets.
+fn with_sets(alloc: Global, sets: &str) -> Result<Vec<u8>, AllocError> {
+    let mut text = Vec::new(alloc);
+    append(&mut text, FOUR)?;
+    for set in sets.split(' ') {
+        append(&mut text, "case,")?;
+        append(&mut text, set)?;
+        append(&mut text, ZEROS)?;
+    }
+    append(&mut text, "end;")?;
+    Ok(text)
+}
+
+const SETS: [(&str, &str); 6] = [
+    ("a b c d a,b a,c a,d", "Other"),
+    ("a b c d b,a a,c a,d", "Shape 73"),
+    ("a b c d c,d a,c a,d", "Shape 73"),
+    ("a b c d a,b a,d a,c", "Shape 88"),
+    ("a b c d a,b a,c", "Shape 103"),
+    ("a b c d a,b a,c a,d a", "Shape 118"),
+];
+
+#[test]
+fn pairs_of_environments(rt: HostRuntime) -> Result<(), Fail> {
+    for (sets, want) in SETS {
+        let text = with_sets(rt.alloc(), sets)?;
+        assert!(rt; text.len() <= 10_000);
+        let found = answer(rt.alloc(), &text)?;
+        assert!(rt; found.as_str() == want, "{sets}: {found}");
+    }
+    Ok(())
+}
+
+#[test]
+fn a_sink_without_room(rt: HostRuntime) -> Result<(), Fail> {
+    let text = WALL.as_bytes();
+    assert!(rt; text.len() <= 10_000);
+    let bundle = read_bundle(rt.alloc(), text).map_err(|_| "a refusal")?;
+    let mut sink = MemorySink::new(rt.alloc(), 17, Vec::new(rt.alloc()))?;
+    assert!(rt; write_bundle(&bundle, &mut sink).is_err());
+    assert!(rt; sink.bytes() == b"bundle,1\ndetail,1".as_slice());
     Ok(())
 }
