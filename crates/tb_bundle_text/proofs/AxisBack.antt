@@ -1,9 +1,9 @@
 -- The record of an axis reads back.
-use Rattle.std.proofs.Common.{◌≡◌, ◌∙◌, ap, refl, sym, subst, ℕ, zero, suc, ◌+◌, ◌-◌, ◌*◌, ◌≤◌, ◌<◌, ◌==◌, Bool, true, false, not, List, [], ◌∷◌, ◌++◌, length, map, drop, All, Option, Some, None, Result, Ok, Err, arith, slice_index, get_or, ◌||◌, ⊎_elim}
+use Rattle.std.proofs.Common.{◌≡◌, ◌∙◌, ap, refl, ℕ, zero, suc, ◌+◌, ◌-◌, ◌*◌, ◌≤◌, ◌<◌, ◌==◌, Bool, true, false, List, [], ◌∷◌, ◌++◌, length, map, All, Option, Some, None, Result, Ok, arith, slice_index, get_or, ◌||◌}
 use Rattle.std.proofs.lemmas.Bool.{eq-eqb, le-leb, le-ltb, lt-ltb}
 use Rattle.std.proofs.lemmas.List.{length-map}
 use Rattle.std.proofs.lemmas.List.Elements.{All-from_get_or, All-head, All-tail, All-weaker, Contains-get_or}
-use Rattle.std.specs.List.{Contains, find, list_any}
+use Rattle.std.specs.List.{find, list_any}
 use Rattle.std.specs.List.Sorted.{IsStrictlyIncreasing}
 use Rattle.csv.specs.Records.{field_at}
 use Rattle.tb_places.specs.declared.AxisName.{AxisName}
@@ -18,7 +18,7 @@ use Rattle.tb_reading.specs.Records.{first_some}
 use Rattle.tb_case_records.specs.declared.fault.RecordFault.{RecordFault}
 use Rattle.tb_case_records.specs.Limits.{IsOnBase}
 use Rattle.tb_case_records.specs.Rows.{numbers, read_of}
-use Rattle.tb_case_records.specs.Table.{axis_fault, is_above, is_none_of, is_too_large, last_of, letter, line_fault, line_faults, line_reading, read_line}
+use Rattle.tb_case_records.specs.Table.{axis_fault, is_above, is_none_of, last_of, letter, line_fault, line_faults, line_reading, read_line}
 use Rattle.tb_case_records.proofs.Rising.{Rise}
 use Rattle.tb_bundle_text.specs.Canonical.{axis_row, line_text}
 use Rattle.tb_bundle_text.proofs.RowsBack.{same}

@@ -1,21 +1,18 @@
 -- The records of a case read back.
-use Rattle.std.proofs.Common.{◌≡◌, ◌∙◌, ap, refl, sym, subst, ℕ, ℤ, ◌+◌, ◌*◌, ◌≤◌, List, [], ◌∷◌, ◌++◌, length, drop, map, None, arith, append_assoc}
-use Rattle.csv.specs.Records.{field_at}
+use Rattle.std.proofs.Common.{◌≡◌, ◌∙◌, ap, refl, sym, subst, ℕ, ◌+◌, ◌*◌, ◌≤◌, List, [], ◌∷◌, ◌++◌, length, drop, None, arith, append_assoc}
 use Rattle.tb_places.specs.declared.AxisName.TheVariants.{X, Y, Z}
 use Rattle.tb_detail.specs.declared.Environment.{Environment}
 use Rattle.tb_grid.specs.Axis.{interval_count}
 use Rattle.tb_grid.specs.Grid.{Axes, most_cells}
 use Rattle.tb_reading.specs.Reading.{Numbered, numbered}
 use Rattle.tb_reading.specs.Records.{Row, text_at}
-use Rattle.tb_terms.specs.declared.Interval.{Interval}
 use Rattle.tb_case_records.specs.declared.case.CaseProof.{CaseProof}
-use Rattle.tb_case_records.specs.declared.ends.Verdict.{Verdict}
 use Rattle.tb_case_records.specs.Ahead.{row_numbers}
 use Rattle.tb_case_records.specs.Cases.{CaseForm, axes_in, case_of, case_table, interval_in, row_at, verdict_in, width_in}
 use Rattle.tb_case_records.specs.Limits.{CaseInLimits, IsFaceValue, IsNodeValue}
 use Rattle.tb_case_records.specs.Rows.{face_reading, node_reading}
 use Rattle.tb_case_records.specs.Table.{Axis, Ends, Exactly, Expected, Judged, face_rows, fault_of, first_fault, last_of, node_rows, width_reading}
-use Rattle.tb_bundle_text.specs.Canonical.{axis_row, case_row, case_rows, ends_row, field_rows, flux_rows, values_in, verdict_row}
+use Rattle.tb_bundle_text.specs.Canonical.{case_row, case_rows, ends_row, field_rows, flux_rows, values_in, verdict_row}
 use Rattle.tb_bundle_text.proofs.AxisBack.{axis_back, axis_lines}
 use Rattle.tb_bundle_text.proofs.GridRows.{face_rows_are, face_values, node_rows_are, node_values}
 use Rattle.tb_bundle_text.proofs.LastBack.{ends_back, ends_read, verdict_back, verdict_read, width_read, words_back}
@@ -112,11 +109,17 @@ module _ (f : CaseForm) (environments : List Environment) (c : CaseProof) (h : C
   unfolding case_rows
   case_meets = (
     subst (λ (row : Row). fault_of (Exactly row) (case_row environments c.case.mask) ≡ None) (sym words_are) (words_back (case_row environments c.case.mask)),
-    (axis_back f.x c.grid.x (h.grid.axes X) h.on_x on_x f.number X 0 (omega arith),
-    (axis_back f.y c.grid.y (h.grid.axes Y) h.on_y on_y f.number Y 0 (omega arith),
-    (axis_back f.z c.grid.z (h.grid.axes Z) h.on_z on_z f.number Z (interval_count c.grid.x * interval_count c.grid.y) few,
-    meets_append (nodes_on c.grid) (faces_on c.grid ++ last_two) (field_rows c.grid c.field) (flux_rows c.grid c.flux ++ (ends_row c.interval ∷ verdict_row c.verdict c.width ∷ []))
-        field_meets (meets_append (faces_on c.grid) last_two (flux_rows c.grid c.flux) (ends_row c.interval ∷ verdict_row c.verdict c.width ∷ []) flux_meets last_meets)))),
+    (
+      axis_back f.x c.grid.x (h.grid.axes X) h.on_x on_x f.number X 0 (omega arith),
+      (
+        axis_back f.y c.grid.y (h.grid.axes Y) h.on_y on_y f.number Y 0 (omega arith),
+        (
+          axis_back f.z c.grid.z (h.grid.axes Z) h.on_z on_z f.number Z (interval_count c.grid.x * interval_count c.grid.y) few,
+          meets_append (nodes_on c.grid) (faces_on c.grid ++ last_two) (field_rows c.grid c.field) (flux_rows c.grid c.flux ++ (ends_row c.interval ∷ verdict_row c.verdict c.width ∷ []))
+              field_meets (meets_append (faces_on c.grid) last_two (flux_rows c.grid c.flux) (ends_row c.interval ∷ verdict_row c.verdict c.width ∷ []) flux_meets last_meets),
+        ),
+      ),
+    ),
   )
 
   module _ (number : ℕ) (more : List Numbered) where

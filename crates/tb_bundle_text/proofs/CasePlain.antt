@@ -1,5 +1,5 @@
 -- The records of a case are plain.
-use Rattle.std.proofs.Common.{◌≡◌, ◌∙◌, ap, refl, ℕ, ℤ, ◌+◌, ◌≤◌, ◌^◌, ◌&&◌, Bool, true, List, [], ◌∷◌, ◌++◌, All, unsigned_abs, arith}
+use Rattle.std.proofs.Common.{◌≡◌, ◌∙◌, refl, ℕ, ◌+◌, ◌≤◌, ◌^◌, true, List, [], ◌∷◌, ◌++◌, All, unsigned_abs, arith}
 use Rattle.std.proofs.lemmas.List.Elements.{All-weaker}
 use Rattle.std.proofs.lemmas.List.Folds.{list_all-append}
 use Rattle.std.specs.List.{flat_map, list_all}
@@ -14,7 +14,7 @@ use Rattle.tb_records.specs.Plain.{is_plain_record}
 use Rattle.tb_reading.specs.Records.{Row}
 use Rattle.tb_case_records.specs.declared.case.CaseProof.{CaseProof}
 use Rattle.tb_case_records.specs.Cases.{CaseForm}
-use Rattle.tb_case_records.specs.Limits.{CaseInLimits, IsFaceValue, IsNodeValue}
+use Rattle.tb_case_records.specs.Limits.{CaseInLimits, IsNodeValue}
 use Rattle.tb_case_records.specs.Rows.{face_reading, node_reading}
 use Rattle.tb_case_records.specs.Table.{face_rows, last_of, node_rows}
 use Rattle.tb_bundle.specs.Bodies.{case_form, case_forms_from}

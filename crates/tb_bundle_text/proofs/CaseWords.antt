@@ -1,5 +1,5 @@
 -- The first record of a case, put name by name.
-use Rattle.std.proofs.Common.{◌≡◌, ◌≢◌, ◌∙◌, ap, refl, sym, ℕ, ◌+◌, ◌/◌, ◌%◌, ◌==◌, ◌<◌, ◌≤◌, subst, map, Bool, true, false, List, [], ◌∷◌, ◌++◌, length, drop, get_or, Option, append_assoc, append-nil, codes, if◌then◌else◌}
+use Rattle.std.proofs.Common.{◌≡◌, ◌≢◌, ◌∙◌, ap, refl, sym, ℕ, ◌+◌, ◌/◌, ◌%◌, ◌<◌, ◌≤◌, subst, Bool, List, [], ◌∷◌, ◌++◌, length, drop, get_or, Option, append_assoc, append-nil, codes, if◌then◌else◌}
 use Rattle.std.proofs.lemmas.Bool.{eq-eqb, ne_eqb}
 use Rattle.std.proofs.lemmas.List.{drop_all, drop_more, map-id}
 use Rattle.std.specs.List.{flat_map}

@@ -10,8 +10,7 @@ use Rattle.tb_geometry.proofs.LevelGrids.{base_within}
 use Rattle.tb_reading.specs.Reading.{Numbered, numbered}
 use Rattle.tb_case_records.specs.declared.case.CaseProof.{CaseProof}
 use Rattle.tb_case_records.specs.Cases.{CaseForm, case_of, case_table}
-use Rattle.tb_case_records.specs.Limits.{CaseInLimits}
-use Rattle.tb_case_records.specs.Table.{Expected, first_fault, last_of}
+use Rattle.tb_case_records.specs.Table.{first_fault, last_of}
 use Rattle.tb_case_records.proofs.Taking.{first_of_both}
 use Rattle.tb_bundle.specs.Bodies.{behind_case, case_form, case_forms_from, cases_of, cases_table}
 use Rattle.tb_bundle.specs.Limits.{CasesInLimits}

@@ -1,29 +1,15 @@
 -- The rows of values of a grid: how each is read, and how many values there are.
-use Rattle.std.proofs.Common.{◌≡◌, ◌∙◌, ap, refl, sym, subst, ℕ, zero, suc, ℤ, ◌+◌, ◌*◌, ◌≤◌, List, [], ◌∷◌, ◌++◌, length, take, drop, map, replicate, Option, Some, None, Result, All, arith, append_assoc}
+use Rattle.std.proofs.Common.{◌≡◌, ◌∙◌, ap, refl, ℕ, zero, suc, ℤ, ◌+◌, ◌*◌, List, ◌++◌, replicate, Result, arith}
 use Rattle.std.proofs.lemmas.List.Elements.{All-append, All-nil, All-cons}
 use Rattle.std.specs.List.{repeat}
-use Rattle.csv.specs.Records.{field_at}
 use Rattle.tb_places.specs.declared.AxisName.TheVariants.{X, Y, Z}
-use Rattle.tb_places.specs.Places.{face_count, node_count}
-use Rattle.tb_detail.specs.declared.Environment.{Environment}
 use Rattle.tb_detail.specs.Names.{Text}
 use Rattle.tb_numbers.specs.declared.parse.NumberFault.{NumberFault}
-use Rattle.tb_grid.specs.Axis.{interval_count}
-use Rattle.tb_grid.specs.Grid.{Axes, counts_of, most_cells}
-use Rattle.tb_reading.specs.Reading.{Numbered, numbered}
-use Rattle.tb_reading.specs.Records.{Row, text_at}
-use Rattle.tb_case_records.specs.declared.case.CaseProof.{CaseProof}
 use Rattle.tb_case_records.specs.declared.rows.RowKind.TheVariants.{Nodes, Faces}
-use Rattle.tb_case_records.specs.Ahead.{row_numbers}
-use Rattle.tb_case_records.specs.Cases.{CaseForm, axes_in, behind_faces, behind_nodes, case_of, case_table, interval_in, lines_in, row_at, verdict_in, width_in}
-use Rattle.tb_case_records.specs.Limits.{CaseInLimits, IsFaceValue, IsNodeValue}
-use Rattle.tb_case_records.specs.Rows.{face_reading, node_reading, numbers}
-use Rattle.tb_case_records.specs.Table.{Axis, Ends, Exactly, Expected, Judged, Values, across_z, face_rows, last_of, layer_rows, line_reading, node_rows, width_reading}
-use Rattle.tb_bundle_text.specs.Canonical.{axis_row, case_row, case_rows, ends_row, field_rows, flux_rows, value_count, value_rows, values_in, verdict_row}
-use Rattle.tb_bundle_text.proofs.AxisBack.{axis_back, axis_lines}
-use Rattle.tb_bundle_text.proofs.LastBack.{ends_back, ends_read, verdict_back, verdict_read, width_read, words_back}
-use Rattle.tb_bundle_text.proofs.Meeting.{Meets, meets_append, met, met_numbers, numbers_of_rows, passed}
-use Rattle.tb_bundle_text.proofs.RowsBack.{AreRows, IsRow, face_back, node_back, rows_meet, rows_read, values_append, values_repeat, values_replicate}
+use Rattle.tb_case_records.specs.Rows.{face_reading, node_reading}
+use Rattle.tb_case_records.specs.Table.{Expected, Values, across_z, face_rows, layer_rows, node_rows}
+use Rattle.tb_bundle_text.specs.Canonical.{values_in}
+use Rattle.tb_bundle_text.proofs.RowsBack.{AreRows, IsRow, values_append, values_repeat, values_replicate}
 
 -- ---- the rows of a grid
 

@@ -1,12 +1,9 @@
 -- The last two records of a case read back, and records of given fields.
-use Rattle.std.proofs.Common.{◌≡◌, ◌∙◌, ap, refl, ℕ, ℤ, ◌≤◌, ◌<◌, ◌^◌, ◌&&◌, Bool, true, false, List, [], ◌∷◌, Option, Some, None, Result, Ok, Err, arith}
-use Rattle.std.specs.Cmp.Lexicographic.{pointwise}
-use Rattle.std.specs.Str.{bytes_eq}
+use Rattle.std.proofs.Common.{◌≡◌, refl, ℕ, ◌≤◌, ◌^◌, true, [], ◌∷◌, None, Ok, arith}
 use Rattle.csv.specs.Records.{field_at}
-use Rattle.tb_detail.specs.Names.{Text}
 use Rattle.tb_numbers.proofs.ReadBack.{reads_back}
 use Rattle.tb_numbers.proofs.ShortTexts.{decimal_reads_within}
-use Rattle.tb_numbers.specs.Texts.{decimal_text, fixed_text}
+use Rattle.tb_numbers.specs.Texts.{decimal_text}
 use Rattle.tb_reading.specs.Records.{Row, text_at}
 use Rattle.tb_terms.specs.declared.Interval.{Interval}
 use Rattle.tb_case_records.specs.declared.ends.Verdict.{Verdict}
@@ -14,7 +11,7 @@ use Rattle.tb_case_records.specs.declared.ends.Verdict.TheVariants as verdict
 use Rattle.tb_case_records.specs.Cases.{interval_in, verdict_in, width_in}
 use Rattle.tb_case_records.specs.Limits.{IsEnd}
 use Rattle.tb_case_records.specs.Table.{Exactly, ends_fault, fault_of, same_fields, verdict_fault, width_reading}
-use Rattle.tb_bundle_text.specs.Canonical.{ends_row, verdict_row, verdict_word}
+use Rattle.tb_bundle_text.specs.Canonical.{ends_row, verdict_row}
 use Rattle.tb_bundle_text.proofs.RowsBack.{same}
 
 -- ---- given fields

@@ -1,10 +1,9 @@
 pub mod AxisBack
-pub mod BundleText
 pub mod CaseBack
 pub mod CasePlain
-pub mod CasesBack
 pub mod CaseText
 pub mod CaseWords
+pub mod CasesBack
 pub mod GridRows
 pub mod Joined
 pub mod LastBack
@@ -14,3 +13,4 @@ pub mod Plain
 pub mod RowsBack
 pub mod ValueTexts
 pub mod WholeBack
+pub mod WholeText

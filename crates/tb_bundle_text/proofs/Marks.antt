@@ -1,5 +1,5 @@
 -- Which records are remarks, and which begin the cases: none of a detail.
-use Rattle.std.proofs.Common.{◌≡◌, ◌∙◌, ap, refl, ℕ, zero, suc, ℤ, ◌+◌, ◌&&◌, not, Bool, true, false, List, [], ◌∷◌, ◌++◌, length, map, take, drop, codes, arith}
+use Rattle.std.proofs.Common.{◌≡◌, ap, refl, ℕ, ℤ, ◌+◌, not, true, false, List, [], ◌∷◌, ◌++◌, length, map, take, drop, arith}
 use Rattle.std.specs.List.{flat_map, prefix_len}
 use Rattle.csv.specs.Records.{field_at}
 use Rattle.tb_detail.specs.declared.ChiItem.{ChiItem}
@@ -20,11 +20,11 @@ use Rattle.tb_reading.specs.Names.{NamesByKind}
 use Rattle.tb_reading.specs.Reading.{Numbered, numbered}
 use Rattle.tb_reading.specs.Records.{Row}
 use Rattle.tb_places.specs.declared.AxisName.TheVariants.{X, Y, Z}
-use Rattle.tb_canonical.specs.Canonical.{box_row, canonical_rows, chi_rows, content_row, environment_row, environment_values, head_row, layer_row, layer_values, line_row, line_values, material_row, material_values, names_in, pair_values, part_rows, part_values, psi_rows, row_of, span_values, term_row, term_values}
+use Rattle.tb_canonical.specs.Canonical.{box_row, canonical_rows, chi_rows, content_row, environment_row, environment_values, layer_row, layer_values, line_row, line_values, material_row, material_values, names_in, pair_values, part_rows, part_values, psi_rows, row_of, span_values, term_row, term_values}
 use Rattle.tb_case_records.specs.declared.case.CaseProof.{CaseProof}
 use Rattle.tb_case_records.specs.declared.rows.RowKind.TheVariants.{Nodes, Faces}
 use Rattle.tb_case_records.specs.Ahead.{without_remarks}
-use Rattle.tb_case_records.specs.Table.{Axis, Ends, Exactly, Expected, Judged, Never, Values, face_rows, node_rows}
+use Rattle.tb_case_records.specs.Table.{Axis, Ends, Exactly, Expected, Judged, Never, Values}
 use Rattle.tb_bundle.specs.Details.{begins_body}
 use Rattle.tb_bundle_text.specs.Canonical.{case_rows, ends_row, field_rows, flux_rows, value_count, value_row, value_rows, verdict_row}
 
@@ -76,18 +76,24 @@ module _ (names : NamesByKind) where
       by (Air environment rs) = of_kind kind.Air [] (Place environment ∷ Number rs ∷ span_values dimension b.span)
 
   part_of : (p : Part) → Each IsOfDetail (part_rows names p)
-  part_of p = (of_kind kind.Part p.name (part_values p),
-    each_mapped IsOfDetail (layer_row names p.name) (λ l. of_kind kind.Layer p.name (layer_values l)) p.layers)
+  part_of p = (
+    of_kind kind.Part p.name (part_values p),
+    each_mapped IsOfDetail (layer_row names p.name) (λ l. of_kind kind.Layer p.name (layer_values l)) p.layers,
+  )
 
   psi_of : (p : PsiItem) → Each IsOfDetail (psi_rows names p)
-  psi_of p = (of_kind kind.Psi p.name (pair_values p.first p.second),
-    each_mapped IsOfDetail (term_row names kind.Length p.name) (λ t. of_kind kind.Length p.name (term_values t)) p.lengths)
+  psi_of p = (
+    of_kind kind.Psi p.name (pair_values p.first p.second),
+    each_mapped IsOfDetail (term_row names kind.Length p.name) (λ t. of_kind kind.Length p.name (term_values t)) p.lengths,
+  )
 
   chi_of : (c : ChiItem) → Each IsOfDetail (chi_rows names c)
-  chi_of c = (of_kind kind.Chi c.name (pair_values c.first c.second),
+  chi_of c = (
+    of_kind kind.Chi c.name (pair_values c.first c.second),
     each_append IsOfDetail (map (term_row names kind.Area c.name) c.areas) (map (line_row names c.name) c.lines)
         (each_mapped IsOfDetail (term_row names kind.Area c.name) (λ t. of_kind kind.Area c.name (term_values t)) c.areas)
-        (each_mapped IsOfDetail (line_row names c.name) (λ l. of_kind kind.Line c.name (line_values l)) c.lines))
+        (each_mapped IsOfDetail (line_row names c.name) (λ l. of_kind kind.Line c.name (line_values l)) c.lines),
+  )
 
 pub detail_rows_are : (d : Detail) → Each IsOfDetail (canonical_rows d)
 unfolding canonical_rows field_at
@@ -99,19 +105,20 @@ detail_rows_are d =
     let parts = flat_map (part_rows names) d.parts in
     let psis = flat_map (psi_rows names) d.psis in
     let chis = flat_map (chi_rows names) d.chis in
-    let P = IsOfDetail in
-    (record { no_remark = refl; no_body = λ n. refl },
-    (each_append P ((((environments ++ materials) ++ boxes) ++ parts) ++ psis) chis
-    (each_append P (((environments ++ materials) ++ boxes) ++ parts) psis
-    (each_append P ((environments ++ materials) ++ boxes) parts
-    (each_append P (environments ++ materials) boxes
-    (each_append P environments materials
-    (each_mapped P (environment_row names) (λ e. of_kind names kind.Environment e.name environment_values) d.environments)
-    (each_mapped P (material_row names) (λ m. of_kind names kind.Material m.name (material_values m)) d.materials))
-    (each_mapped P (box_row names d.dimension) (box_of names d.dimension) d.boxes))
-    (each_joined P (part_rows names) (part_of names) d.parts))
-    (each_joined P (psi_rows names) (psi_of names) d.psis))
-    (each_joined P (chi_rows names) (chi_of names) d.chis)))
+    let P = IsOfDetail in (
+      record { no_remark = refl; no_body = λ n. refl },
+      (each_append P ((((environments ++ materials) ++ boxes) ++ parts) ++ psis) chis
+          (each_append P (((environments ++ materials) ++ boxes) ++ parts) psis
+          (each_append P ((environments ++ materials) ++ boxes) parts
+          (each_append P (environments ++ materials) boxes
+          (each_append P environments materials
+          (each_mapped P (environment_row names) (λ e. of_kind names kind.Environment e.name environment_values) d.environments)
+          (each_mapped P (material_row names) (λ m. of_kind names kind.Material m.name (material_values m)) d.materials))
+          (each_mapped P (box_row names d.dimension) (box_of names d.dimension) d.boxes))
+          (each_joined P (part_rows names) (part_of names) d.parts))
+          (each_joined P (psi_rows names) (psi_of names) d.psis))
+          (each_joined P (chi_rows names) (chi_of names) d.chis)),
+    )
 
 -- ---- the records of cases
 
@@ -137,10 +144,20 @@ value_rows_are (e ∷ es) values = (value_row_is e (take (value_count e) values)
 pub case_rows_are : (environments : List Environment) (c : CaseProof) → Each IsNoRemark (case_rows environments c)
 unfolding case_rows field_at
 case_rows_are environments c =
-    let last : Each IsNoRemark (ends_row c.interval ∷ verdict_row c.verdict c.width ∷ []) = (refl, (refl, tt)) in
-    (refl, (refl, (refl, (refl,
-    each_append IsNoRemark (field_rows c.grid c.field) (flux_rows c.grid c.flux ++ (ends_row c.interval ∷ verdict_row c.verdict c.width ∷ [])) (value_rows_are _ c.field)
-    (each_append IsNoRemark (flux_rows c.grid c.flux) (ends_row c.interval ∷ verdict_row c.verdict c.width ∷ []) (value_rows_are _ c.flux) last)))))
+    let last : Each IsNoRemark (ends_row c.interval ∷ verdict_row c.verdict c.width ∷ []) = (refl, (refl, tt)) in (
+      refl,
+      (
+        refl,
+        (
+          refl,
+          (
+            refl,
+            each_append IsNoRemark (field_rows c.grid c.field) (flux_rows c.grid c.flux ++ (ends_row c.interval ∷ verdict_row c.verdict c.width ∷ [])) (value_rows_are _ c.field)
+                (each_append IsNoRemark (flux_rows c.grid c.flux) (ends_row c.interval ∷ verdict_row c.verdict c.width ∷ []) (value_rows_are _ c.flux) last),
+          ),
+        ),
+      ),
+    )
 
 pub cases_are : (environments : List Environment) (cs : List CaseProof) → Each IsNoRemark (flat_map (case_rows environments) cs)
 cases_are environments cs = each_joined IsNoRemark (case_rows environments) (case_rows_are environments) cs

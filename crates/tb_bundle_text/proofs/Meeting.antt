@@ -1,5 +1,5 @@
 -- Rows that meet awaited records: one row for each, none at fault.
-use Rattle.std.proofs.Common.{◌≡◌, ◌∙◌, ap, refl, ℕ, zero, suc, ◌+◌, List, [], ◌∷◌, ◌++◌, length, take, drop, Option, Some, None, Result}
+use Rattle.std.proofs.Common.{◌≡◌, ◌∙◌, ap, refl, ℕ, suc, ◌+◌, List, [], ◌∷◌, ◌++◌, length, drop, Option, None, Result}
 use Rattle.std.specs.List.{flat_map}
 use Rattle.tb_detail.specs.Names.{Text}
 use Rattle.tb_numbers.specs.declared.parse.NumberFault.{NumberFault}

@@ -1,17 +1,16 @@
 -- The records of a bundle are plain.
-use Rattle.std.proofs.Common.{◌≡◌, ◌∙◌, ap, refl, sym, ℕ, zero, suc, ◌+◌, ◌*◌, ◌/◌, ◌%◌, ◌≤◌, ◌<◌, ◌^◌, ◌==◌, ◌&&◌, inl, inr, not, Bool, true, false, List, [], ◌∷◌, ◌++◌, length, map, take, drop, All, ℤ, pos, negsuc, unsigned_abs, arith, codes, if◌then◌else◌, Result}
+use Rattle.std.proofs.Common.{◌≡◌, refl, ℕ, suc, ◌/◌, ◌%◌, ◌≤◌, ◌<◌, ◌^◌, ◌==◌, inl, inr, Bool, true, false, List, [], ◌∷◌, map, take, drop, All, ℤ, pos, negsuc, unsigned_abs, arith, if◌then◌else◌, Result}
 use Rattle.std.proofs.lemmas.Fmt.{decimal_is_IsNumeral_wide}
 use Rattle.std.proofs.lemmas.Int.{ints}
 use Rattle.std.proofs.lemmas.List.{append-nil}
-use Rattle.std.proofs.lemmas.List.Elements.{All-cons, All-drop, All-from_get_or, All-head, All-nil, All-tail, All-take, All-weaker}
-use Rattle.std.proofs.lemmas.List.Folds.{list_all-append}
+use Rattle.std.proofs.lemmas.List.Elements.{All-cons, All-drop, All-from_get_or, All-head, All-tail, All-take}
 use Rattle.std.proofs.lemmas.Str.Parse.{digit_at}
 use Rattle.std.proofs.Math.Nat.{div-one}
 use Rattle.std.specs.Int.{is_negative}
-use Rattle.std.specs.List.{flat_map, list_all}
+use Rattle.std.specs.List.{list_all}
 use Rattle.std.specs.Prelude.{decimal, IsTrue}
 use Rattle.tb_numbers.proofs.ShortTexts.{decimal_plain, signed_plain}
-use Rattle.tb_numbers.specs.Texts.{IsDecimalByte, IsSignedDecimalByte, decimal_text, fixed_text}
+use Rattle.tb_numbers.specs.Texts.{IsSignedDecimalByte, decimal_text, fixed_text}
 use Rattle.tb_records.specs.Plain.{is_plain, is_plain_record}
 use Rattle.tb_detail.specs.declared.Environment.{Environment}
 use Rattle.tb_detail.specs.Names.{Text, is_name}
@@ -19,7 +18,6 @@ use Rattle.tb_numbers.specs.declared.parse.NumberFault.{NumberFault}
 use Rattle.tb_places.specs.declared.AxisName.{AxisName}
 use Rattle.tb_places.specs.declared.AxisName.TheVariants.{X, Y, Z}
 use Rattle.tb_terms.specs.declared.Interval.{Interval}
-use Rattle.tb_reading.specs.Records.{Row}
 use Rattle.tb_canonical.proofs.PlainFields.{decimal_byte, each_plain, name_plain, signed_byte}
 use Rattle.tb_case_records.specs.declared.ends.Verdict.{Verdict}
 use Rattle.tb_case_records.specs.declared.ends.Verdict.TheVariants as verdict
@@ -28,7 +26,7 @@ use Rattle.tb_case_records.specs.declared.rows.RowKind.TheVariants.{Nodes, Faces
 use Rattle.tb_case_records.specs.Limits.{IsEnd}
 use Rattle.tb_case_records.specs.Table.{Axis, Ends, Exactly, Expected, Judged, Never, Values}
 use Rattle.tb_bundle.specs.Bodies.{names_of_set}
-use Rattle.tb_bundle_text.specs.Canonical.{axis_row, case_row, ends_row, line_text, value_count, value_row, value_rows, value_text, verdict_row}
+use Rattle.tb_bundle_text.specs.Canonical.{axis_row, case_row, ends_row, line_text, value_row, value_rows, value_text, verdict_row}
 use Rattle.tb_bundle_text.proofs.RowsBack.{AreRows, IsRow}
 
 -- ---- fields
@@ -97,8 +95,10 @@ rows_plain reading (Ends ∷ es) values r h = absurd (All-head (IsRow reading) E
 rows_plain reading (Judged ∷ es) values r h = absurd (All-head (IsRow reading) Judged es r)
 rows_plain reading (Never ∷ es) values r h = absurd (All-head (IsRow reading) Never es r)
 rows_plain reading (Values kind count ∷ es) values r h =
-    rw (row_plain kind count (take count values) (All-take IsSmall count values h),
-    rows_plain reading es (drop count values) (All-tail (IsRow reading) (Values kind count) es r) (All-drop IsSmall count values h)) refl
+    rw (
+      row_plain kind count (take count values) (All-take IsSmall count values h),
+      rows_plain reading es (drop count values) (All-tail (IsRow reading) (Values kind count) es r) (All-drop IsSmall count values h),
+    ) refl
 
 pub ends_plain : (ends : Interval) → IsEnd ends.lo → IsEnd ends.hi → is_plain_record (ends_row ends) ≡ true
 ends_plain ends low high = rw (end_plain ends.lo low, end_plain ends.hi high) refl

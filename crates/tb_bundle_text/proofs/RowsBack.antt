@@ -1,5 +1,5 @@
 -- Rows of values read back.
-use Rattle.std.proofs.Common.{◌≡◌, ◌∙◌, ap, refl, sym, ℕ, zero, suc, ℤ, pos, negsuc, ◌+◌, ◌*◌, ◌≤◌, ◌<◌, ◌^◌, ◌==◌, ◌&&◌, Bool, true, false, List, [], ◌∷◌, ◌++◌, length, map, take, drop, replicate, All, Option, Some, None, option_map, Result, Ok, Err, arith, eq-eqb, unsigned_abs, append_assoc}
+use Rattle.std.proofs.Common.{◌≡◌, ◌∙◌, ap, refl, ℕ, zero, suc, ℤ, pos, negsuc, ◌+◌, ◌*◌, ◌≤◌, true, false, List, [], ◌∷◌, ◌++◌, length, map, take, drop, replicate, All, None, Result, Ok, arith, eq-eqb}
 use Rattle.std.proofs.lemmas.Bool.{le-leb}
 use Rattle.std.proofs.lemmas.Int.{ints}
 use Rattle.std.specs.Int.{is_negative}
@@ -14,7 +14,6 @@ use Rattle.tb_numbers.proofs.ShortTexts.{decimal_reads, signed_reads_within}
 use Rattle.tb_numbers.specs.Texts.{signed_decimal_text}
 use Rattle.tb_numbers.specs.declared.parse.NumberFault.{NumberFault}
 use Rattle.tb_reading.specs.Records.{Row, first_some}
-use Rattle.tb_case_records.specs.declared.fault.RecordFault.{RecordFault}
 use Rattle.tb_case_records.specs.declared.rows.RowKind.{RowKind}
 use Rattle.tb_case_records.specs.Limits.{IsFaceValue, IsNodeValue}
 use Rattle.tb_case_records.specs.Rows.{face_reading, fault_in, number_faults, node_reading, numbers, read_of, reading_of, row_fault, word_of}

@@ -1,9 +1,8 @@
 -- A whole bundle reads back.
-use Rattle.std.proofs.Common.{◌≡◌, ◌∙◌, ap, refl, sym, subst, ℕ, ◌+◌, ◌≤◌, not, Bool, true, false, List, [], ◌∷◌, ◌++◌, length, take, drop, Option, Some, None, Result, Ok, append_assoc, nat_lt, length-append}
+use Rattle.std.proofs.Common.{◌≡◌, ◌∙◌, ap, refl, sym, subst, ℕ, ◌+◌, ◌≤◌, true, false, List, [], ◌∷◌, ◌++◌, length, take, drop, Option, None, Ok, length-append}
 use Rattle.std.proofs.lemmas.List.{drop-drop}
 use Rattle.std.proofs.lemmas.Bool.{le-ltb}
 use Rattle.std.specs.List.{flat_map, list_all}
-use Rattle.std.specs.Option.{option_or}
 use Rattle.csv.specs.Records.{field_at}
 use Rattle.tb_detail.specs.declared.Detail.{Detail}
 use Rattle.tb_detail.specs.Limits.{InLimits}
@@ -11,27 +10,25 @@ use Rattle.tb_records.specs.Plain.{begins_with_mark, is_plain_record}
 use Rattle.tb_records.specs.Records.{records_of}
 use Rattle.tb_records.proofs.Plain.{plain_records_read_back}
 use Rattle.tb_geometry.specs.Cases.{case_masks}
-use Rattle.tb_reading.specs.declared.fault.DetailFault.{DetailFault}
 use Rattle.tb_reading.specs.Reading.{Numbered, detail_reading, numbered}
 use Rattle.tb_reading.specs.Records.{Row, unless}
 use Rattle.tb_canonical.specs.Canonical.{canonical_rows}
 use Rattle.tb_canonical.proofs.WholeReading.{canonical_plain, canonical_reading}
 use Rattle.tb_case_records.specs.declared.case.CaseProof.{CaseProof}
 use Rattle.tb_case_records.specs.declared.fault.BundleFault.{BundleFault}
-use Rattle.tb_case_records.specs.Ahead.{Ahead, all_ahead, without_remarks}
-use Rattle.tb_case_records.specs.Cases.{CaseForm}
-use Rattle.tb_case_records.specs.Table.{Expected, first_fault}
+use Rattle.tb_case_records.specs.Ahead.{all_ahead}
+use Rattle.tb_case_records.specs.Table.{first_fault}
 use Rattle.tb_case_records.proofs.Taking.{first_of_both}
 use Rattle.tb_bundle.specs.declared.bundle.Bundle.{Bundle}
-use Rattle.tb_bundle.specs.Bodies.{body_fault, case_form, case_forms, case_forms_from, cases_of, cases_table, end_table, extra_fault}
+use Rattle.tb_bundle.specs.Bodies.{body_fault, case_forms, cases_of, cases_table, end_table, extra_fault}
 use Rattle.tb_bundle.specs.Bundles.{bundle_reading, reading_ahead, with_detail}
-use Rattle.tb_bundle.specs.Details.{begins_body, body_part, detail_ahead, detail_part}
-use Rattle.tb_bundle.specs.Limits.{BundleInLimits, CasesInLimits}
+use Rattle.tb_bundle.specs.Details.{body_part, detail_ahead, detail_part}
+use Rattle.tb_bundle.specs.Limits.{BundleInLimits}
 use Rattle.tb_bundle_text.specs.Canonical.{bundle_rows, bundle_text, case_rows, end_row, head_row}
 use Rattle.tb_bundle_text.proofs.CaseBack.{numbered_append}
 use Rattle.tb_bundle_text.proofs.CasePlain.{cases_plain, plain_append}
 use Rattle.tb_bundle_text.proofs.CasesBack.{AreBack, cases_back}
-use Rattle.tb_bundle_text.proofs.Marks.{BeginsBody, Each, IsNoRemark, IsOfDetail, cases_are, detail_ends, detail_rows_are, each_append, left, none_dropped, of_detail, taken}
+use Rattle.tb_bundle_text.proofs.Marks.{BeginsBody, Each, IsNoRemark, cases_are, detail_ends, detail_rows_are, each_append, left, none_dropped, of_detail, taken}
 
 -- ---- the records behind the detail
 
@@ -84,9 +81,11 @@ module _ (d : Detail) (rest : List Numbered) (begins : BeginsBody rest) (number 
 
 no_remarks : (b : Bundle) → Each IsNoRemark (bundle_rows b)
 unfolding bundle_rows field_at
-no_remarks b = (refl,
+no_remarks b = (
+  refl,
   each_append IsNoRemark (canonical_rows b.detail) (body_rows b.detail b.cases) (of_detail (canonical_rows b.detail) (detail_rows_are b.detail))
-      (each_append IsNoRemark (flat_map (case_rows b.detail.environments) b.cases) (end_row ∷ []) (cases_are b.detail.environments b.cases) (refl, tt)))
+      (each_append IsNoRemark (flat_map (case_rows b.detail.environments) b.cases) (end_row ∷ []) (cases_are b.detail.environments b.cases) (refl, tt)),
+)
 
 module _ (b : Bundle) (h : BundleInLimits b) where
   abbrev behind : ℕ

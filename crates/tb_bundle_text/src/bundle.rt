@@ -17,7 +17,7 @@ use tb_bundle::Bundle;
 use tb_canonical::{put_detail, put_record};
 use tb_case_records::CaseProof;
 use tb_detail::Environment;
-use tb_outside::{OutputBuffer, Sink, SinkFault};
+use tb_outside::{OutputBuffer, Sink, SinkFault, Text, write_text};
 
 // Puts the records of cases, one behind the other.
 fn put_cases<K: Sink>(
@@ -51,6 +51,22 @@ pub fn put_bundle<K: Sink>(buffer: &mut OutputBuffer, sink: &mut K, bundle: &Bun
     put_record(buffer, sink, b"end", &[]);
 }
 
+/// The canonical text of a bundle within limits.
+#[derive(Clone, Copy)]
+pub struct BundleText<'a> {
+    pub bundle: &'a Bundle,
+}
+
+impl Text for BundleText<'_> {
+    ghost text = { λ t. bundle_text t.bundle.now };
+
+    ghost has_text = { λ t. BundleInLimits t.bundle.now };
+
+    fn put<K: Sink>(&self, buffer: &mut OutputBuffer, sink: &mut K) {
+        put_bundle(buffer, sink, self.bundle);
+    }
+}
+
 /// Writes the canonical text of a bundle within the limits of the format. It takes no memory. Where the sink fails, a
 /// front of the text was written. The text reads back as the same bundle, without a fault.
 pub fn write_bundle<K: Sink>(bundle: &Bundle, sink: &mut K) -> Result<(), SinkFault>
@@ -60,7 +76,5 @@ pub fn write_bundle<K: Sink>(bundle: &Bundle, sink: &mut K) -> Result<(), SinkFa
     ensures reads_back { bundle_reading (records_of (bundle_text bundle.now)) ≡ Ok bundle.now }
 {
     written_bundles_read_back();
-    let mut buffer = OutputBuffer::new();
-    put_bundle(&mut buffer, sink, bundle);
-    buffer.flush(sink)
+    write_text(&BundleText { bundle }, sink)
 }

@@ -81,7 +81,12 @@ fn put_verdict<K: Sink>(buffer: &mut OutputBuffer, sink: &mut K, verdict: Verdic
     ensures { Gathers K.holds K.faults sink.old sink.new buffer.old (record_text (verdict_row verdict width)) buffer.new }
 {
     let width = decimal(width, 0);
-    put_record(buffer, sink, b"verdict", &[verdict_word(verdict), width.as_bytes()]);
+    put_record(
+        buffer,
+        sink,
+        b"verdict",
+        &[verdict_word(verdict), width.as_bytes()],
+    );
 }
 
 /// Puts the records of a case of a detail with these environments.

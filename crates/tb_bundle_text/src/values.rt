@@ -71,7 +71,12 @@ fn put_layers<'a, K: Sink>(
 }
 
 /// Puts the rows of a field on a grid of so many cells along each axis.
-pub fn put_field<K: Sink>(buffer: &mut OutputBuffer, sink: &mut K, counts: CellCounts, values: &[i64])
+pub fn put_field<K: Sink>(
+    buffer: &mut OutputBuffer,
+    sink: &mut K,
+    counts: CellCounts,
+    values: &[i64],
+)
     requires few { (counts.x < most_lines) × ((counts.y < most_lines) × (counts.z < most_lines)) }
     requires enough { values_in (node_rows counts.x counts.y counts.z) ≤ length values.now }
     ensures { Gathers K.holds K.faults sink.old sink.new buffer.old
@@ -82,12 +87,24 @@ pub fn put_field<K: Sink>(buffer: &mut OutputBuffer, sink: &mut K, counts: CellC
 }
 
 /// Puts the rows of a flux on a grid of so many cells along each axis, in the order of the numbers of faces.
-pub fn put_flux<K: Sink>(buffer: &mut OutputBuffer, sink: &mut K, counts: CellCounts, values: &[i64])
+pub fn put_flux<K: Sink>(
+    buffer: &mut OutputBuffer,
+    sink: &mut K,
+    counts: CellCounts,
+    values: &[i64],
+)
     requires few { (counts.x < most_lines) × ((counts.y < most_lines) × (counts.z < most_lines)) }
     requires enough { values_in (face_rows counts.x counts.y counts.z) ≤ length values.now }
     ensures { Gathers K.holds K.faults sink.old sink.new buffer.old
         (records_text (value_rows (face_rows counts.x counts.y counts.z) values.now)) buffer.new }
 {
     let left = put_layers(buffer, sink, counts, values);
-    put_rows(buffer, sink, RowKind::Faces(AxisName::Z), counts.x, counts.y, left);
+    put_rows(
+        buffer,
+        sink,
+        RowKind::Faces(AxisName::Z),
+        counts.x,
+        counts.y,
+        left,
+    );
 }

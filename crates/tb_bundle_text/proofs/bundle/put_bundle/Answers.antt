@@ -1,4 +1,4 @@
-use Rattle.tb_bundle_text.proofs.BundleText.{all_full, bundle_put}
+use Rattle.tb_bundle_text.proofs.WholeText.{all_full, bundle_put}
 use Rattle.tb_bundle_text.proofs.bundle.put_bundle.Goals as goal
 
 pub put_cases-requires : goal.put_cases-requires

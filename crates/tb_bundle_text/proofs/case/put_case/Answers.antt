@@ -1,4 +1,4 @@
-use Rattle.tb_bundle_text.proofs.CaseText.{AreCounts, case_put, field_enough, field_put, flux_enough, flux_put}
+use Rattle.tb_bundle_text.proofs.CaseText.{case_put, field_enough, field_put, flux_enough, flux_put}
 use Rattle.tb_bundle_text.proofs.case.put_case.Goals as goal
 
 pub put_field-requires-clause-enough : goal.put_field-requires-clause-enough

@@ -1,5 +1,5 @@
-use Rattle.std.proofs.Common.{◌≡◌, ◌+◌, arith, append-nil, drop}
-use Rattle.tb_bundle_text.proofs.CaseWords.{all_names, names_at, no_names, puts_name, puts_no_name}
+use Rattle.std.proofs.Common.{◌+◌, arith, append-nil, drop}
+use Rattle.tb_bundle_text.proofs.CaseWords.{all_names, names_at, puts_name, puts_no_name}
 use Rattle.tb_bundle_text.proofs.case.put_case_row.Goals.{else-left-eq1, then-left-eq1}
 use Rattle.tb_bundle_text.proofs.case.put_case_row.Goals as goal
 
@@ -12,7 +12,7 @@ loop-environment-preserved g c =
     let e = c.environment-item.result in
     let p = names_at all c.args.mask i left e c.environment-item.is c.loop-environment-test.true c.loop-environment.invariant in
     elim c.if-left-eq1.branch [
-      then-left-eq1 w ↦ rw (w.buffer-is, w.sink-is)
+      | then-left-eq1 w ↦ rw (w.buffer-is, w.sink-is)
           (puts_name all c.args.mask e rest left p w.if-left-eq1.true (rw (append-nil w.name_bytes.result.now, w.name_bytes.ensures) at w.put_pieces.ensures))
       | else-left-eq1 w ↦ rw (w.buffer-is, w.sink-is) (puts_no_name all c.args.mask e rest left p w.if-left-eq1.false)
     ]

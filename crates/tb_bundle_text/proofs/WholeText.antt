@@ -9,7 +9,6 @@ use Rattle.tb_outside.proofs.Gathered.{gathers_both, gathers_same}
 use Rattle.tb_outside.specs.Buffers.{Gathers}
 use Rattle.tb_geometry.specs.Cases.{case_masks}
 use Rattle.tb_records.specs.Plain.{record_text, records_text}
-use Rattle.tb_reading.specs.Records.{Row}
 use Rattle.tb_canonical.specs.Canonical.{canonical_rows, canonical_text}
 use Rattle.tb_case_records.specs.declared.case.CaseProof.{CaseProof}
 use Rattle.tb_bundle.specs.declared.bundle.Bundle.{Bundle}
