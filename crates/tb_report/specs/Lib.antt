@@ -1,0 +1,4 @@
+pub mod Ends
+pub mod Values
+pub mod Texts
+pub mod Limits
