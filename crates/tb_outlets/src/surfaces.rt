@@ -9,7 +9,7 @@ use crate::side::Side;
 use tb_grid::{CellCounts, CellId, FaceId, FacePlace};
 
 /// The cell of the set on a side of which a face is, where a cell that isn't in the set is on the other.
-pub(crate) fn surface_cell(
+pub fn surface_cell(
     counts: CellCounts,
     solid: &[bool],
     face: FaceId,
