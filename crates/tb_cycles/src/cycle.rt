@@ -1,5 +1,5 @@
 // The cycles of surface faces.
-ghost use Rattle.std.specs.Prelude.{◌≡◌, ◌+◌, ◌*◌, ◌<◌, ◌≤◌, ◌^◌, ℕ, List, ℤ, length, MatchOption, neg_ℤ, unsigned_abs, ◌*ℤ◌};
+ghost use Rattle.std.specs.Prelude.{◌≡◌, ◌↔◌, IsTrue, ◌+◌, ◌*◌, ◌<◌, ◌≤◌, ◌^◌, ℕ, List, ℤ, length, MatchOption, neg_ℤ, unsigned_abs, ◌*ℤ◌};
 ghost use Rattle.tb_places.specs.Places.{IsCell, cell_count, face_count};
 ghost use Rattle.tb_grid.specs.Views.{along_axes};
 ghost use Rattle.tb_model.specs.Mesh.{Mesh};
@@ -38,9 +38,19 @@ pub fn cycle_entry(
     ensures { (m : Mesh) → along_axes counts ≡ m.cells → MarkSolids m.cells m solid.now → AreOutlets m (side_at sides.now)
         → MatchOption result (¬ HasCycle m face.0) (λ entry. IsEntry m face.0 entry.cell.0 entry.side) }
 {
-    let (cell, side) = surface_cell(counts, solid, face)?;
-    if sides[cell.0 as usize] == side {
+    let Some((cell, side)) = surface_cell(counts, solid, face) else {
+        return None;
+    };
+    if is_outlet(sides, cell, side) {
         return None;
     }
     Some(CycleEntry { cell, side })
+}
+
+// Whether the outlet of a cell is on a side of it.
+fn is_outlet(sides: &[Side], cell: CellId, side: Side) -> bool
+    requires { cell.0 < length sides.now }
+    ensures { IsTrue result ↔ (side_at sides.now cell.0 ≡ side) }
+{
+    sides[cell.0 as usize] == side
 }
