@@ -22,7 +22,15 @@ use Rattle.tb_outlets.proofs.Carrying.{IsOnWay, next_on_way}
 use Rattle.tb_outlets.proofs.MeshCycles.{begins_way, entering, is_cycle, none_flows, one_cycle}
 use Rattle.tb_outlets.proofs.Sides.{number_below}
 use Rattle.tb_outlets.proofs.Trees.{tree}
-use Rattle.tb_cycles.specs.Ways.{sum_over, way_sum}
+use Rattle.tb_math.proofs.ReadIntegers.{by_reading, reading}
+use Rattle.std.specs.Prelude.{◌-ℤ◌}
+use Rattle.tb_outlets.specs.declared.marks.Mark.{Mark}
+use Rattle.tb_outlets.specs.Balancing.{side_at}
+use Rattle.tb_outlets.specs.Searching.{distance_at}
+use Rattle.tb_outlets.proofs.MeshCycles.{outward}
+use Rattle.tb_cycles.specs.Entries.{IsEntry}
+use Rattle.tb_cycles.specs.Ways.{LeadOut, sum_over, way_sum}
+use Rattle.tb_cycles.proofs.Entering.{root_has_none}
 
 -- ---- sums over a list with one place changed
 
@@ -110,3 +118,20 @@ cycle_total m outlet distance c s es flows pull outlets distances here surface o
     ∙ from_none (total_ℤ n (told (carry_all face outlet (entering m c s) c es) pull)) (total_ℤ n (told (entering m c s) pull))
     (neg_ℤ (out s) *ℤ pull (face c s)) (way_sum face outlet pull c es)
     (carried_total face (IsSolidAt m) outlet distance pull n (entering m c s) c es is_tree way leads long) first
+
+turn_sign : (w o : ℤ) (s : Side) (p : ℤ) → o ≡ out s *ℤ p → w -ℤ o ≡ neg_ℤ (out s) *ℤ p +ℤ w
+turn_sign w o s p is = ap (λ (x : ℤ). w -ℤ x) is ∙ by_reading {atoms = w ∷ out s ∷ p ∷ []} (search reading) (search reading) refl
+
+-- as a program sums it
+pub pulled : (n : Counts) (m : Mesh) (marks : List Mark) (sides : List Side) (pull : ℕ → ℤ) (f c : ℕ) (s : Side) (flows : List ℤ) (along entering sum : ℤ) →
+    n ≡ m.cells → LeadOut m marks sides → IsEntry m f c s → IsCycle m c s flows →
+    ((es : List ℕ) → IsOutward (face_of m.cells) (IsSolidAt m) (side_at sides) c es → along ≡ way_sum (face_of m.cells) (side_at sides) pull c es) →
+    entering ≡ out s *ℤ pull (face_of n c s) → sum ≡ along -ℤ entering → sum ≡ sum_over m.cells flows pull
+pulled n m marks sides pull f c s flows along entering sum same leads entry cycle walked enters is =
+    let outlet = side_at sides in
+    let way = outward m outlet (distance_at marks) leads.outlets leads.distances (distance_at marks c) c entry.solid (omega arith) in
+    let other : s ≢ outlet c = λ at. root_has_none m outlet f c s leads.outlets (sym at) entry in
+    is
+    ∙ ap (λ (x : ℤ). x -ℤ entering) (walked way.0 way.1)
+    ∙ turn_sign (way_sum (face_of m.cells) outlet pull c way.0) entering s (pull (face_of m.cells c s)) (enters ∙ ap (λ (k : Counts). out s *ℤ pull (face_of k c s)) same)
+    ∙ sym (cycle_total m outlet (distance_at marks) c s way.0 flows pull leads.outlets leads.distances entry.solid entry.surface other way.1 cycle)

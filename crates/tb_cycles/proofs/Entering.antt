@@ -36,7 +36,7 @@ entry_of m flags outlet f c s marks outlets is other =
     }
 
 -- the root has no cycle
-root_has_none : (m : Mesh) (outlet : ℕ → Side) (f c : ℕ) (s : Side) → AreOutlets m outlet → outlet c ≡ s → ¬ IsEntry m f c s
+pub root_has_none : (m : Mesh) (outlet : ℕ → Side) (f c : ℕ) (s : Side) → AreOutlets m outlet → outlet c ≡ s → ¬ IsEntry m f c s
 root_has_none m outlet f c s outlets same entry = ⊎_elim
     (λ (root : IsRoot m (cell_place m.cells c) (cell_place m.cells c) (outlet c)).
     absurd (entry.no_root (subst (λ (t : Side). IsRoot m (cell_place m.cells c) (cell_place m.cells c) t) same root)))

@@ -8,5 +8,5 @@ mod cycle;
 mod pulls;
 mod way;
 
-pub use cycle::{CycleEntry, cycle_entry};
+pub use cycle::{CycleEntry, cycle_entry, cycle_pull};
 pub use pulls::FacePull;

@@ -39,7 +39,7 @@ fn next_outward(
 }
 
 // What is told of the face on a side of the cell at a place, where 1 leaves the cell there.
-fn pull_out<P: FacePull>(counts: CellCounts, pulls: &P, cell: Place, side: Side) -> i128
+pub(crate) fn pull_out<P: FacePull>(counts: CellCounts, pulls: &P, cell: Place, side: Side) -> i128
     requires fits { P.fits (along_axes counts) pulls.now }
     requires cell { IsCell (along_axes counts) cell }
     ensures value { result ≡ out side *ℤ P.pulls pulls.now (number_on (along_axes counts) side cell) }
@@ -82,7 +82,7 @@ fn pull_of_outlet<P: FacePull>(
 }
 
 // The sum over the outlets on the way from a cell to the root, where 1 leaves each cell.
-fn pull_outward<P: FacePull>(
+pub(crate) fn pull_outward<P: FacePull>(
     counts: CellCounts,
     marks: &[Mark],
     sides: &[Side],
