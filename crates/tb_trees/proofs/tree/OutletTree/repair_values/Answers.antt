@@ -8,33 +8,33 @@ pub repair_along-requires-clause-tree : goal.repair_along-requires-clause-tree
 repair_along-requires-clause-tree c =
     let inside = c.self.inside in
     let n = along_axes inside.counts in
-    let keeps = subst (λ (b : BodyOnGrid). KeepsTree b n inside.tree.marks.items inside.tree.sides.items inside.tree.order.items inside.passable.items) c.self.view_is c.self.invariant in
-    tree_kept c.args.self.now n inside.tree.marks.items inside.tree.sides.items inside.tree.order.items inside.passable.items keeps
+    let keeps = subst (λ (b : BodyOnGrid). KeepsTree b n inside.tree.marks.items inside.tree.sides.items inside.tree.order.items inside.passable.items inside.solid.items) c.self.view_is c.self.invariant in
+    tree_kept c.args.self.now n inside.tree.marks.items inside.tree.sides.items inside.tree.order.items inside.passable.items inside.solid.items keeps
 
 pub repair_along-requires-clause-carries : goal.repair_along-requires-clause-carries
 repair_along-requires-clause-carries c =
     let inside = c.self.inside in
     let n = along_axes inside.counts in
-    let keeps = subst (λ (b : BodyOnGrid). KeepsTree b n inside.tree.marks.items inside.tree.sides.items inside.tree.order.items inside.passable.items) c.self.view_is c.self.invariant in
-    passable_kept c.args.self.now n inside.tree.marks.items inside.tree.sides.items inside.tree.order.items inside.passable.items keeps c.as_slice.result.now c.as_slice.ensures.value
+    let keeps = subst (λ (b : BodyOnGrid). KeepsTree b n inside.tree.marks.items inside.tree.sides.items inside.tree.order.items inside.passable.items inside.solid.items) c.self.view_is c.self.invariant in
+    passable_kept c.args.self.now n inside.tree.marks.items inside.tree.sides.items inside.tree.order.items inside.passable.items inside.solid.items keeps c.as_slice.result.now c.as_slice.ensures.value
 
 pub repair_along-requires-clause-given : goal.repair_along-requires-clause-given
 repair_along-requires-clause-given c =
     let inside = c.self.inside in
     let n = along_axes inside.counts in
-    let keeps = subst (λ (b : BodyOnGrid). KeepsTree b n inside.tree.marks.items inside.tree.sides.items inside.tree.order.items inside.passable.items) c.self.view_is c.self.invariant in
-    faces_kept c.args.self.now n inside.tree.marks.items inside.tree.sides.items inside.tree.order.items inside.passable.items keeps _ c.requires.given
+    let keeps = subst (λ (b : BodyOnGrid). KeepsTree b n inside.tree.marks.items inside.tree.sides.items inside.tree.order.items inside.passable.items inside.solid.items) c.self.view_is c.self.invariant in
+    faces_kept c.args.self.now n inside.tree.marks.items inside.tree.sides.items inside.tree.order.items inside.passable.items inside.solid.items keeps _ c.requires.given
 
 pub repair_along-requires-clause-values : goal.repair_along-requires-clause-values
 repair_along-requires-clause-values c =
     let inside = c.self.inside in
     let n = along_axes inside.counts in
-    let keeps = subst (λ (b : BodyOnGrid). KeepsTree b n inside.tree.marks.items inside.tree.sides.items inside.tree.order.items inside.passable.items) c.self.view_is c.self.invariant in
-    faces_kept c.args.self.now n inside.tree.marks.items inside.tree.sides.items inside.tree.order.items inside.passable.items keeps _ c.requires.values
+    let keeps = subst (λ (b : BodyOnGrid). KeepsTree b n inside.tree.marks.items inside.tree.sides.items inside.tree.order.items inside.passable.items inside.solid.items) c.self.view_is c.self.invariant in
+    faces_kept c.args.self.now n inside.tree.marks.items inside.tree.sides.items inside.tree.order.items inside.passable.items inside.solid.items keeps _ c.requires.values
 
 pub returns : goal.returns
 returns c =
     let inside = c.self.inside in
     let n = along_axes inside.counts in
-    let keeps = subst (λ (b : BodyOnGrid). KeepsTree b n inside.tree.marks.items inside.tree.sides.items inside.tree.order.items inside.passable.items) c.self.view_is c.self.invariant in
-    c.repair_along.ensures (mesh_of c.args.self.now) (kept_counts c.args.self.now n inside.tree.marks.items inside.tree.sides.items inside.tree.order.items inside.passable.items keeps) keeps.tree (slice_passes c.args.self.now n inside.tree.marks.items inside.tree.sides.items inside.tree.order.items inside.passable.items keeps c.as_slice.result.now c.as_slice.ensures.value)
+    let keeps = subst (λ (b : BodyOnGrid). KeepsTree b n inside.tree.marks.items inside.tree.sides.items inside.tree.order.items inside.passable.items inside.solid.items) c.self.view_is c.self.invariant in
+    c.repair_along.ensures (mesh_of c.args.self.now) (kept_counts c.args.self.now n inside.tree.marks.items inside.tree.sides.items inside.tree.order.items inside.passable.items inside.solid.items keeps) keeps.tree (slice_passes c.args.self.now n inside.tree.marks.items inside.tree.sides.items inside.tree.order.items inside.passable.items inside.solid.items keeps c.as_slice.result.now c.as_slice.ensures.value)
