@@ -1,5 +1,5 @@
 -- What an outlet tree keeps.
-use Rattle.std.proofs.Common.{◌≡◌, ℕ, ◌<◌, ◌∙◌, List, Bool, length, refl, sym, ap, subst}
+use Rattle.std.proofs.Common.{◌≡◌, ℕ, ◌<◌, ◌∙◌, List, Bool, length, refl, sym, ap, subst, arith}
 use Rattle.tb_places.specs.Places.{Counts, by_axis, cell_count, face_count}
 use Rattle.tb_places.proofs.ByAxis.{same_by_axis}
 use Rattle.tb_detail.specs.declared.Detail.{Detail}
@@ -10,7 +10,9 @@ use Rattle.tb_outlets.specs.declared.marks.Mark.{Mark}
 use Rattle.tb_outlets.specs.declared.side.Side.{Side}
 use Rattle.tb_outlets.specs.Repair.{MarkCarrying}
 use Rattle.tb_outlets.specs.Trees.{IsTreeOn}
-use Rattle.tb_cycles.specs.Ways.{LeadOut}
+use Rattle.tb_cycles.specs.Ways.{LeadOut, LeadOutOn}
+use Rattle.tb_cycles.specs.Entries.{IsEntry}
+use Rattle.tb_outlets.specs.Searching.{distance_at}
 use Rattle.tb_trees.specs.Bodies.{BodyOnGrid, KeepsTree, mesh_of}
 use Rattle.tb_trees.proofs.Filled.{mesh_counts}
 
@@ -63,3 +65,19 @@ leads_out b n marks sides order passable solid keeps = record {
   near = keeps.tree.near;
   outlets = keeps.tree.outlets;
 }
+
+module _ (b : BodyOnGrid) (n : Counts) (marks : List Mark) (sides : List Side) (order : List CellId) (passable solid : List Bool)
+    (keeps : KeepsTree b n marks sides order passable solid) where
+  -- as slices
+  pub leads_read : (read : List Mark) (told : List Side) → read ≡ marks → told ≡ sides → LeadOut (mesh_of b) read told
+  leads_read read told first second =
+      subst (λ (all : List Mark). LeadOut (mesh_of b) all told) (sym first)
+      (subst (λ (all : List Side). LeadOut (mesh_of b) marks all) (sym second) (leads_out b n marks sides order passable solid keeps))
+
+  pub leads_read_on : (read : List Mark) (told : List Side) → read ≡ marks → told ≡ sides → LeadOutOn n read told
+  leads_read_on read told first second =
+      record { mesh = mesh_of b; counts = kept_counts b n marks sides order passable solid keeps; leads = leads_read read told first second }
+
+  -- the cell at which a cycle enters is found
+  pub found_at_entry : (f c : ℕ) (s : Side) → IsEntry (mesh_of b) f c s → 0 < distance_at marks c
+  found_at_entry f c s entry = let long = (keeps.tree.distances c entry.solid).long in omega arith

@@ -1,5 +1,5 @@
 // The outlet tree of a body on a grid.
-ghost use Rattle.std.specs.Prelude.{◌≡◌, ◌↔◌, ◌<◌, IfOk, IsTrue, MatchOption, length};
+ghost use Rattle.std.specs.Prelude.{◌≡◌, ◌↔◌, ◌+◌, ◌*◌, ◌<◌, ◌≤◌, ◌^◌, ℕ, List, ℤ, IfOk, IsTrue, MatchOption, length, unsigned_abs};
 ghost use Rattle.tb_detail.specs.Limits.{InLimits};
 ghost use Rattle.tb_grid.specs.Grid.{counts_of};
 ghost use Rattle.tb_geometry.specs.Faults.{IsAccepted};
@@ -11,7 +11,7 @@ use crate::memory::NoMemory;
 use std::alloc::{AllocError, Global};
 use std::marker::Model;
 use std::snapshot::Snapshot;
-use tb_cycles::{CycleEntry, cycle_entry};
+use tb_cycles::{CycleEntry, FacePull, cycle_entry, cycle_pull};
 use tb_geometry::Body;
 use tb_grid::{CellCounts, CellId, FaceId, Grid};
 use tb_outlets::{Tree, plant, repair_along};
@@ -69,7 +69,8 @@ impl OutletTree {
     ghost use Rattle.tb_places.specs.Places.{cell_count, face_count};
     ghost use Rattle.tb_outlets.specs.Balancing.{IsWithinLimits};
     ghost use Rattle.tb_outlets.specs.Outlets.{IsSolidAt};
-    ghost use Rattle.tb_outlets.specs.Repair.{IsRepairAnswer};
+    ghost use Rattle.tb_outlets.specs.Repair.{IsCycle, IsRepairAnswer, IsRepaired};
+    ghost use Rattle.tb_cycles.specs.Ways.{most_pull, sum_over};
     ghost use Rattle.tb_outlets.specs.Trees.{IsDistanceAt, IsOutletNumber};
     ghost use Rattle.tb_cycles.specs.Entries.{HasCycle, IsEntry};
     ghost use Rattle.tb_trees.specs.Bodies.{mesh_of};
@@ -122,7 +123,8 @@ impl OutletTree {
         requires given { length given.now ≡ face_count (counts_of self.now.grid) }
         requires values { length values.old ≡ face_count (counts_of self.now.grid) }
         requires limits { IsWithinLimits given.now }
-        ensures { IsRepairAnswer (mesh_of self.now) given.now result values.new }
+        ensures repaired { IsRepairAnswer (mesh_of self.now) given.now result values.new }
+        ensures one { (v w : List ℤ) → IsRepaired (mesh_of self.now) given.now v → IsRepaired (mesh_of self.now) given.now w → v ≡ w }
     {
         repair_along(
             self.counts,
@@ -152,5 +154,24 @@ impl OutletTree {
         ensures { IsTrue result ↔ HasCycle (mesh_of self.now) face.0 }
     {
         self.cycle_entry(face).is_some()
+    }
+
+    /// The sum over all faces of what is told of a face times the flow of a cycle through it, by one walk along the
+    /// outlets. It takes no memory.
+    pub fn cycle_pull<P: FacePull>(&self, pulls: &P, entry: CycleEntry) -> i128
+        requires fits { P.fits (counts_of self.now.grid) pulls.now }
+        requires entry { (f : ℕ) × IsEntry (mesh_of self.now) f entry.cell.0 entry.side }
+        ensures value { (f : ℕ) (flows : List ℤ) → IsEntry (mesh_of self.now) f entry.cell.0 entry.side
+            → IsCycle (mesh_of self.now) entry.cell.0 entry.side flows
+            → result ≡ sum_over (mesh_of self.now).cells flows (P.pulls pulls.now) }
+        ensures size { unsigned_abs result ≤ 2 ^ 18 * most_pull + most_pull }
+    {
+        cycle_pull(
+            self.counts,
+            self.tree.marks.as_slice(),
+            self.tree.sides.as_slice(),
+            pulls,
+            entry,
+        )
     }
 }
