@@ -1,9 +1,9 @@
 -- The sum over a cycle is that at its face and along the way of outlets.
-use Rattle.std.proofs.Common.{◌≡◌, ◌≢◌, inl, inr, ℕ, zero, suc, ◌<◌, ◌≤◌, List, [], ◌∷◌, length, arith, refl, sym, ap, subst, ◌∙◌, ⊎_elim, get_or-set_other, get_or-set_same}
+use Rattle.std.proofs.Common.{◌≡◌, ◌≢◌, ℕ, zero, suc, ◌<◌, ◌≤◌, List, [], ◌∷◌, length, arith, refl, sym, ap, ◌∙◌, ⊎_elim, get_or-set_other, get_or-set_same}
 use Rattle.std.specs.Prelude.{ℤ, pos, neg_ℤ, ◌+ℤ◌, ◌*ℤ◌, slice_set}
 use Rattle.std.proofs.lemmas.Int.{ints}
 use Rattle.tb_math.specs.Integers.{zero-mul}
-use Rattle.std.proofs.lemmas.Bool.{cases_eq, cases_lt}
+use Rattle.std.proofs.lemmas.Bool.{cases_lt}
 use Rattle.std.proofs.lemmas.List.{length-replicate}
 use Rattle.std.proofs.Math.ListN.{length-set, replicate}
 use Rattle.tb_math.specs.Sums.{total_ℤ}
@@ -13,7 +13,7 @@ use Rattle.tb_model.specs.Mesh.{Mesh}
 use Rattle.tb_walk.specs.Isolated.{IsSurface}
 use Rattle.tb_outlets.specs.declared.side.Side.{Side}
 use Rattle.tb_outlets.specs.Balancing.{flow}
-use Rattle.tb_outlets.specs.Cycles.{IsOutward, LeadsTo, carry, carry_all, out}
+use Rattle.tb_outlets.specs.Cycles.{IsOutward, carry, carry_all, out}
 use Rattle.tb_outlets.specs.Flows.{IsTree, Sides}
 use Rattle.tb_outlets.specs.Outlets.{AreDistances, AreOutlets, IsSolidAt}
 use Rattle.tb_outlets.specs.Repair.{IsCycle}

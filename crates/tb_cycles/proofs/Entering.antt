@@ -1,8 +1,6 @@
 -- Where cycles enter.
-use Rattle.std.proofs.Common.{◌≡◌, ◌≢◌, inl, ℕ, List, Bool, true, refl, sym, ap, subst, ◌∙◌, ⊎_elim}
-use Rattle.tb_places.specs.declared.Place.{Place}
+use Rattle.std.proofs.Common.{◌≡◌, ◌≢◌, inl, ℕ, List, Bool, sym, ap, subst, ◌∙◌, ⊎_elim}
 use Rattle.tb_places.specs.Inverse.{cell_place}
-use Rattle.tb_places.specs.Places.{Counts, cell_number}
 use Rattle.tb_places.proofs.Cells.{cell_number_of_place, cell_place_within}
 use Rattle.tb_model.specs.Mesh.{Mesh}
 use Rattle.tb_walk.specs.Isolated.{IsSurface, MarkSolids}
@@ -10,7 +8,7 @@ use Rattle.tb_walk.specs.Spreading.{flag}
 use Rattle.tb_outlets.specs.declared.side.Side.{Side}
 use Rattle.tb_outlets.specs.Outlets.{AreOutlets, IsFirstNearer, IsRoot, IsSolidAt}
 use Rattle.tb_outlets.specs.Searching.{IsOpening}
-use Rattle.tb_outlets.specs.Sides.{face_of, kind_on}
+use Rattle.tb_outlets.specs.Sides.{kind_on}
 use Rattle.tb_outlets.proofs.MeshCycles.{on_one}
 use Rattle.tb_outlets.proofs.OneOutlet.{one_outlet}
 use Rattle.tb_outlets.proofs.Sides.{faces_apart}

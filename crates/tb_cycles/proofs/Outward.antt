@@ -1,6 +1,6 @@
 -- The way of outlets, one cell after the other.
-use Rattle.std.proofs.Common.{◌≡◌, ◌≢◌, ◌⊎◌, inl, inr, ℕ, suc, ◌+◌, ◌*◌, ◌<◌, ◌≤◌, List, [], ◌∷◌, length, arith, refl, sym, ap, subst, ◌∙◌, ⊎_elim}
-use Rattle.std.specs.Prelude.{ℤ, pos, ◌+ℤ◌, ◌*ℤ◌, unsigned_abs}
+use Rattle.std.proofs.Common.{◌≡◌, ℕ, ◌+◌, ◌*◌, ◌<◌, ◌≤◌, List, [], ◌∷◌, length, arith, refl, sym, ap, subst, ◌∙◌, ⊎_elim}
+use Rattle.std.specs.Prelude.{ℤ, pos, ◌+ℤ◌, ◌*ℤ◌}
 use Rattle.std.proofs.lemmas.Int.{ints}
 use Rattle.tb_places.specs.declared.Place.{Place}
 use Rattle.tb_places.specs.Inverse.{cell_place}
@@ -11,7 +11,6 @@ use Rattle.tb_outlets.specs.declared.marks.Mark.{Mark}
 use Rattle.tb_outlets.specs.declared.side.Side.{Side}
 use Rattle.tb_outlets.specs.Balancing.{side_at}
 use Rattle.tb_outlets.specs.Cycles.{IsOutward, LeadsTo, opposite, out}
-use Rattle.tb_outlets.specs.Flows.{Sides}
 use Rattle.tb_outlets.specs.Outlets.{IsDistance, IsFirstNearer, IsRoot, IsSolidAt}
 use Rattle.tb_outlets.specs.Searching.{distance_at}
 use Rattle.tb_outlets.specs.Sides.{IsBeyond, face_of}

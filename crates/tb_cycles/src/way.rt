@@ -16,12 +16,7 @@ use tb_outlets::{Mark, Side};
 use tb_walk::PlacedCell;
 
 // The cell beyond the outlet of a cell, but of the root's cell.
-fn next_outward(
-    counts: CellCounts,
-    marks: &[Mark],
-    sides: &[Side],
-    cell: CellId,
-) -> Option<CellId>
+fn next_outward(counts: CellCounts, marks: &[Mark], sides: &[Side], cell: CellId) -> Option<CellId>
     requires cell { cell.0 < cell_count (along_axes counts) }
     requires marks { length marks.now ≡ cell_count (along_axes counts) }
     requires sides { length sides.now ≡ cell_count (along_axes counts) }
@@ -65,12 +60,7 @@ fn plus(total: i128, more: i128) -> i128
 }
 
 // What is told of the outlet of a cell, where 1 leaves the cell there.
-fn pull_of_outlet<P: FacePull>(
-    counts: CellCounts,
-    sides: &[Side],
-    pulls: &P,
-    cell: CellId,
-) -> i128
+fn pull_of_outlet<P: FacePull>(counts: CellCounts, sides: &[Side], pulls: &P, cell: CellId) -> i128
     requires fits { P.fits (along_axes counts) pulls.now }
     requires cell { cell.0 < cell_count (along_axes counts) }
     requires sides { length sides.now ≡ cell_count (along_axes counts) }
@@ -78,7 +68,12 @@ fn pull_of_outlet<P: FacePull>(
         result ≡ out side *ℤ P.pulls pulls.now (face_of (along_axes counts) cell.0 side) }
     ensures size { unsigned_abs result ≤ most_pull }
 {
-    pull_out(counts, pulls, counts.cell_place(cell), sides[cell.0 as usize])
+    pull_out(
+        counts,
+        pulls,
+        counts.cell_place(cell),
+        sides[cell.0 as usize],
+    )
 }
 
 // The sum over the outlets on the way from a cell to the root, where 1 leaves each cell.

@@ -4,12 +4,11 @@ use Rattle.std.specs.Prelude.{ℤ, pos}
 use Rattle.tb_math.specs.Rational.{int}
 use Rattle.tb_places.specs.declared.AxisName.{AxisName}
 use Rattle.tb_places.specs.declared.AxisName.TheVariants.{X, Y, Z}
-use Rattle.tb_places.specs.declared.Place.{Place}
-use Rattle.tb_places.specs.Places.{IsFace, along, place_at, second, third}
+use Rattle.tb_places.specs.Places.{along, place_at, second, third}
 use Rattle.tb_model.specs.declared.FaceKind.TheVariants.{Shut}
 use Rattle.tb_model.specs.Energy.{Flux, IsBalanced}
 use Rattle.tb_model.specs.Faults.{IsFirstOuter, IsFirstUnbalanced}
-use Rattle.tb_model.specs.Mesh.{Mesh, kind, kind_at}
+use Rattle.tb_model.specs.Mesh.{Mesh, kind}
 use Rattle.tb_flux.proofs.Firsts.{int-zero}
 use Rattle.tb_flux.specs.Fluxes.{KeepsHeat, ShutsOff}
 

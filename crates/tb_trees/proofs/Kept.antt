@@ -1,5 +1,5 @@
 -- What an outlet tree keeps.
-use Rattle.std.proofs.Common.{◌≡◌, ℕ, ◌<◌, ◌∙◌, List, Bool, length, refl, sym, ap, subst, arith}
+use Rattle.std.proofs.Common.{◌≡◌, ℕ, ◌<◌, ◌∙◌, List, Bool, length, sym, ap, subst, arith}
 use Rattle.tb_places.specs.Places.{Counts, by_axis, cell_count, face_count}
 use Rattle.tb_places.proofs.ByAxis.{same_by_axis}
 use Rattle.tb_detail.specs.declared.Detail.{Detail}

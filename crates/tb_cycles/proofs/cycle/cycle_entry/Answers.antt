@@ -1,7 +1,6 @@
-use Rattle.std.proofs.Common.{◌≡◌, ◌≢◌, ℕ, List, Bool, refl, subst, sym}
+use Rattle.std.proofs.Common.{ℕ, refl, subst}
 use Rattle.std.proofs.lemmas.Bool.{false≢true}
 use Rattle.tb_places.specs.Places.{Counts}
-use Rattle.tb_grid.specs.Views.{along_axes}
 use Rattle.tb_outlets.specs.Balancing.{side_at}
 use Rattle.tb_outlets.specs.Searching.{IsOpening}
 use Rattle.tb_outlets.specs.declared.side.Side.{Side}

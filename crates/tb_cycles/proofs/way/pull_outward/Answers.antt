@@ -1,11 +1,11 @@
-use Rattle.std.proofs.Common.{◌≡◌, ◌+◌, ◌*◌, ◌<◌, ◌≤◌, ◌^◌, ℕ, List, arith, refl, rules, sym, subst, ap, ◌∙◌, of_z, to_z}
-use Rattle.std.specs.Prelude.{ℤ, ◌+ℤ◌, unsigned_abs}
+use Rattle.std.proofs.Common.{◌≡◌, ◌+◌, ◌*◌, ◌≤◌, ◌^◌, arith, rules, sym, subst, ◌∙◌, of_z, to_z}
+use Rattle.std.specs.Prelude.{ℤ, unsigned_abs}
 use mir.Syntax.{w128}
-use Rattle.tb_places.specs.Places.{Counts, cell_count}
+use Rattle.tb_places.specs.Places.{cell_count}
 use Rattle.tb_grid.specs.Views.{along_axes}
 use Rattle.tb_outlets.specs.Balancing.{side_at}
 use Rattle.tb_outlets.specs.Searching.{distance_at}
-use Rattle.tb_cycles.specs.Ways.{IsLast, IsLeft, IsNext, most_pull}
+use Rattle.tb_cycles.specs.Ways.{most_pull}
 use Rattle.tb_cycles.proofs.Outward.{all_left, cell_within, distance_near, end_on, end_size, marks_long, next_found, one_nearer, step_on, sides_long, within_all}
 use Rattle.tb_cycles.proofs.way.pull_outward.Goals as goal
 

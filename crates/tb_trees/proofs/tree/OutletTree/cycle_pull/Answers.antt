@@ -3,11 +3,9 @@ use mir.Syntax.{w128}
 use Rattle.tb_places.specs.Places.{Counts}
 use Rattle.tb_grid.specs.Views.{along_axes}
 use Rattle.tb_outlets.specs.declared.marks.Mark.{Mark}
-use Rattle.tb_outlets.specs.declared.side.Side.{Side}
 use Rattle.tb_outlets.specs.Searching.{distance_at}
-use Rattle.tb_cycles.specs.Ways.{LeadOut, LeadOutOn}
 use Rattle.tb_trees.specs.Bodies.{BodyOnGrid, KeepsTree, mesh_of}
-use Rattle.tb_trees.proofs.Kept.{found_at_entry, kept_counts, leads_out, leads_read, leads_read_on}
+use Rattle.tb_trees.proofs.Kept.{found_at_entry, kept_counts, leads_read, leads_read_on}
 use Rattle.tb_trees.proofs.tree.OutletTree.cycle_pull.Goals as goal
 
 pub cycle_pull-requires-clause-fits : goal.cycle_pull-requires-clause-fits
