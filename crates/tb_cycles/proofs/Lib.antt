@@ -1,1 +1,3 @@
 pub mod Outward
+pub mod CycleSums
+pub mod Entering

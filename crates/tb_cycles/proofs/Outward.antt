@@ -1,6 +1,6 @@
 -- The way of outlets, one cell after the other.
-use Rattle.std.proofs.Common.{◌≡◌, ◌≢◌, ◌⊎◌, inl, inr, ℕ, suc, ◌+◌, ◌*◌, ◌<◌, ◌≤◌, List, [], ◌∷◌, length, arith, refl, sym, ap, subst, ◌∙◌, ⊎_elim}
-use Rattle.std.specs.Prelude.{ℤ, pos, ◌+ℤ◌, ◌*ℤ◌, unsigned_abs}
+use Rattle.std.proofs.Common.{◌≡◌, ℕ, ◌+◌, ◌*◌, ◌<◌, ◌≤◌, List, [], ◌∷◌, length, arith, refl, sym, ap, subst, ◌∙◌, ⊎_elim}
+use Rattle.std.specs.Prelude.{ℤ, pos, ◌+ℤ◌, ◌*ℤ◌}
 use Rattle.std.proofs.lemmas.Int.{ints}
 use Rattle.tb_places.specs.declared.Place.{Place}
 use Rattle.tb_places.specs.Inverse.{cell_place}
@@ -11,11 +11,12 @@ use Rattle.tb_outlets.specs.declared.marks.Mark.{Mark}
 use Rattle.tb_outlets.specs.declared.side.Side.{Side}
 use Rattle.tb_outlets.specs.Balancing.{side_at}
 use Rattle.tb_outlets.specs.Cycles.{IsOutward, LeadsTo, opposite, out}
-use Rattle.tb_outlets.specs.Flows.{Sides}
 use Rattle.tb_outlets.specs.Outlets.{IsDistance, IsFirstNearer, IsRoot, IsSolidAt}
 use Rattle.tb_outlets.specs.Searching.{distance_at}
 use Rattle.tb_outlets.specs.Sides.{IsBeyond, face_of}
 use Rattle.tb_outlets.proofs.MeshCycles.{beyond_face, leads_to}
+use Rattle.std.proofs.Common.{◌^◌}
+use Rattle.std.proofs.Common.{mul-le-mul_right}
 use Rattle.tb_outlets.proofs.Sides.{one_beyond}
 use Rattle.tb_outlets.proofs.Trees.{one_distance, tree}
 use Rattle.tb_cycles.specs.Ways.{IsLast, IsLeft, IsNext, LeadOut, LeadOutOn, way_sum}
@@ -115,3 +116,68 @@ last_step m marks sides out_of pull start whole c total more here last is left =
     ap (λ (x : ℤ). total +ℤ x) is
     ∙ sym (ap (λ (es : List ℕ). total +ℤ way_sum (face_of m.cells) (side_at sides) pull c es) none)
     ∙ left.adds
+
+-- ---- lists that lead out on a grid
+
+module _ (n : Counts) (marks : List Mark) (sides : List Side) (on : LeadOutOn n marks sides) where
+  pub cell_within : (c : ℕ) → 0 < distance_at marks c → c < cell_count n
+  cell_within c found = subst (λ (k : Counts). c < cell_count k) (sym on.counts) (on.leads.found c found).0
+
+  pub marks_long : length marks ≡ cell_count n
+  marks_long = on.leads.marked ∙ sym (ap (λ (k : Counts). cell_count k) on.counts)
+
+  pub sides_long : length sides ≡ cell_count n
+  sides_long = on.leads.count ∙ sym (ap (λ (k : Counts). cell_count k) on.counts)
+
+  pub distance_near : (c : ℕ) → distance_at marks c ≤ cell_count n
+  distance_near c = subst (λ (k : Counts). distance_at marks c ≤ cell_count k) (sym on.counts) (on.leads.near c)
+
+  -- the next cell is found, and nearer
+  pub next_found : (c d : ℕ) → 0 < distance_at marks c → IsNext n marks sides c d → (0 < distance_at marks d) × (distance_at marks d < distance_at marks c)
+  next_found c d found next =
+      let there = followed on.mesh marks sides on.leads c d (on.leads.found c found) (subst (λ (k : Counts). IsNext k marks sides c d) on.counts next) in
+      (some_distance on.mesh marks sides on.leads d there.leads.in_set, there.nearer)
+
+-- so many numbers, each at most p in size, are at most 2¹⁸ · p together
+pub within_all : (t d s n p : ℕ) → t + d * p ≤ s * p → s ≤ n → n ≤ 2 ^ 18 → t ≤ 2 ^ 18 * p
+within_all t d s n p kept near few =
+    let more : s * p ≤ 2 ^ 18 * p = mul-le-mul_right p (omega arith) in
+    omega arith
+
+pub one_nearer : (t u d e s p : ℕ) → t + d * p ≤ s * p → u ≤ t + p → e < d → u + e * p ≤ s * p
+one_nearer t u d e s p kept more nearer =
+    let less : (e + 1) * p ≤ d * p = mul-le-mul_right p (omega arith) in
+    omega arith
+
+zero_left : (x : ℤ) → pos 0 +ℤ x ≡ x
+zero_left x = omega (arith, ints)
+
+-- the whole way is left at its start
+pub all_left : (m : Mesh) (outlet : ℕ → Side) (pull : ℕ → ℤ) (start : ℕ) (es : List ℕ) →
+    IsOutward (face_of m.cells) (IsSolidAt m) outlet start es → IsLeft m outlet pull start es start (pos 0)
+all_left m outlet pull start es outward = record { rest = es; outward = outward; adds = zero_left _ }
+
+-- ---- steps as a program takes them, on counts that are the mesh's
+
+pub step_on : (n : Counts) (m : Mesh) (marks : List Mark) (sides : List Side) (pull : ℕ → ℤ) (start : ℕ) (whole : List ℕ) (c d : ℕ) (total more sum : ℤ) →
+    n ≡ m.cells → LeadOut m marks sides → 0 < distance_at marks c → IsNext n marks sides c d →
+    more ≡ out (side_at sides c) *ℤ pull (face_of n c (side_at sides c)) → sum ≡ total +ℤ more →
+    IsLeft m (side_at sides) pull start whole c total → IsLeft m (side_at sides) pull start whole d sum
+step_on n m marks sides pull start whole c d total more sum same out_of found next is adds left =
+    subst (λ (x : ℤ). IsLeft m (side_at sides) pull start whole d x) (sym adds)
+    (one_step m marks sides out_of pull start whole c d total more (out_of.found c found) (subst (λ (k : Counts). IsNext k marks sides c d) same next)
+    (is ∙ ap (λ (k : Counts). out (side_at sides c) *ℤ pull (face_of k c (side_at sides c))) same) left)
+
+pub end_on : (n : Counts) (m : Mesh) (marks : List Mark) (sides : List Side) (pull : ℕ → ℤ) (start : ℕ) (whole : List ℕ) (c : ℕ) (total more sum : ℤ) →
+    n ≡ m.cells → LeadOut m marks sides → 0 < distance_at marks c → IsLast n marks sides c →
+    more ≡ out (side_at sides c) *ℤ pull (face_of n c (side_at sides c)) → sum ≡ total +ℤ more →
+    IsLeft m (side_at sides) pull start whole c total → sum ≡ way_sum (face_of m.cells) (side_at sides) pull start whole
+end_on n m marks sides pull start whole c total more sum same out_of found last is adds left =
+    adds ∙ last_step m marks sides out_of pull start whole c total more (out_of.found c found) (subst (λ (k : Counts). IsLast k marks sides c) same last)
+    (is ∙ ap (λ (k : Counts). out (side_at sides c) *ℤ pull (face_of k c (side_at sides c))) same) left
+
+pub end_size : (t u d s n p : ℕ) → t + d * p ≤ s * p → u ≤ t + p → 0 < d → s ≤ n → n ≤ 2 ^ 18 → u ≤ 2 ^ 18 * p
+end_size t u d s n p kept more found near few =
+    let all : s * p ≤ 2 ^ 18 * p = mul-le-mul_right p (omega arith) in
+    let one : 1 * p ≤ d * p = mul-le-mul_right p (omega arith) in
+    omega arith

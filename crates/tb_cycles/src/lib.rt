@@ -4,7 +4,9 @@
 //! every other face that isn't an outlet. [`cycle_pull`] sums over it what a function tells of each face.
 #![tactic(auto)]
 
+mod cycle;
 mod pulls;
 mod way;
 
+pub use cycle::{CycleEntry, cycle_entry, cycle_pull};
 pub use pulls::FacePull;

@@ -16,12 +16,7 @@ use tb_outlets::{Mark, Side};
 use tb_walk::PlacedCell;
 
 // The cell beyond the outlet of a cell, but of the root's cell.
-fn next_outward(
-    counts: CellCounts,
-    marks: &[Mark],
-    sides: &[Side],
-    cell: CellId,
-) -> Option<CellId>
+fn next_outward(counts: CellCounts, marks: &[Mark], sides: &[Side], cell: CellId) -> Option<CellId>
     requires cell { cell.0 < cell_count (along_axes counts) }
     requires marks { length marks.now ≡ cell_count (along_axes counts) }
     requires sides { length sides.now ≡ cell_count (along_axes counts) }
@@ -39,7 +34,7 @@ fn next_outward(
 }
 
 // What is told of the face on a side of the cell at a place, where 1 leaves the cell there.
-fn pull_out<P: FacePull>(counts: CellCounts, pulls: &P, cell: Place, side: Side) -> i128
+pub(crate) fn pull_out<P: FacePull>(counts: CellCounts, pulls: &P, cell: Place, side: Side) -> i128
     requires fits { P.fits (along_axes counts) pulls.now }
     requires cell { IsCell (along_axes counts) cell }
     ensures value { result ≡ out side *ℤ P.pulls pulls.now (number_on (along_axes counts) side cell) }
@@ -65,12 +60,7 @@ fn plus(total: i128, more: i128) -> i128
 }
 
 // What is told of the outlet of a cell, where 1 leaves the cell there.
-fn pull_of_outlet<P: FacePull>(
-    counts: CellCounts,
-    sides: &[Side],
-    pulls: &P,
-    cell: CellId,
-) -> i128
+fn pull_of_outlet<P: FacePull>(counts: CellCounts, sides: &[Side], pulls: &P, cell: CellId) -> i128
     requires fits { P.fits (along_axes counts) pulls.now }
     requires cell { cell.0 < cell_count (along_axes counts) }
     requires sides { length sides.now ≡ cell_count (along_axes counts) }
@@ -78,11 +68,16 @@ fn pull_of_outlet<P: FacePull>(
         result ≡ out side *ℤ P.pulls pulls.now (face_of (along_axes counts) cell.0 side) }
     ensures size { unsigned_abs result ≤ most_pull }
 {
-    pull_out(counts, pulls, counts.cell_place(cell), sides[cell.0 as usize])
+    pull_out(
+        counts,
+        pulls,
+        counts.cell_place(cell),
+        sides[cell.0 as usize],
+    )
 }
 
 // The sum over the outlets on the way from a cell to the root, where 1 leaves each cell.
-fn pull_outward<P: FacePull>(
+pub(crate) fn pull_outward<P: FacePull>(
     counts: CellCounts,
     marks: &[Mark],
     sides: &[Side],

@@ -1,6 +1,6 @@
 -- What leaves a cell, as a whole number, and which cells are solid.
-use Rattle.std.proofs.Common.{◌≡◌, ℕ, suc, ◌+◌, Some, None, Option, List, ap, sym, subst, ◌∙◌, refl, add-one, ℤ, pos, ◌+ℤ◌}
-use Rattle.std.specs.Prelude.{◌-ℤ◌, slice_index_or}
+use Rattle.std.proofs.Common.{◌≡◌, ℕ, suc, ◌+◌, Some, None, Option, List, ap, sym, subst, ◌∙◌, refl, add-one, ℤ, ◌+ℤ◌}
+use Rattle.std.specs.Prelude.{◌-ℤ◌}
 use Rattle.std.specs.Option.{option_map}
 use Rattle.tb_math.specs.Rational.{ℚ, int, ◌+ℚ◌, ◌-ℚ◌}
 use Rattle.tb_math.proofs.RationalLaws.{int-difference, int-add}

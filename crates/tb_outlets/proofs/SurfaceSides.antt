@@ -1,21 +1,18 @@
 -- A side of a solid cell is a Surface just where air lies beyond it.
-use Rattle.std.proofs.Common.{◌≡◌, ◌≢◌, ℕ, zero, suc, ◌+◌, ◌<◌, ◌≤◌, List, Bool, true, ⊎_elim, arith, add-one, refl, sym, ap, subst, ◌∙◌}
-use Rattle.std.specs.Prelude.{Option, Some, None}
-use Rattle.std.proofs.lemmas.Bool.{cases_lt, false_from_ne_true, false≢true}
+use Rattle.std.proofs.Common.{◌≡◌, ℕ, List, Bool, true, arith, refl, sym, ap, subst, ◌∙◌}
+use Rattle.std.proofs.lemmas.Bool.{false_from_ne_true, false≢true}
 use Rattle.tb_places.specs.declared.AxisName.TheVariants.{X, Y, Z}
 use Rattle.tb_places.specs.declared.Place.{Place}
 use Rattle.tb_places.specs.Inverse.{cell_place}
 use Rattle.tb_places.specs.Places.{IsCell, cell_number, place_at}
 use Rattle.tb_places.proofs.Cells.{cell_number_below, cell_number_of_place, cell_place_of_number, cell_place_within}
 use Rattle.tb_places.proofs.Rows.{same_place}
-use Rattle.tb_detail.specs.declared.Content.{Content}
-use Rattle.tb_detail.specs.declared.Content.TheVariants.{Solid, Air}
 use Rattle.tb_places.specs.Along.{ahead}
-use Rattle.tb_model.specs.Mesh.{Mesh, below, above, kind_between}
+use Rattle.tb_model.specs.Mesh.{Mesh}
 use Rattle.tb_walk.specs.Isolated.{IsSolidCell, IsSurface, MarkSolids}
 use Rattle.tb_model.specs.Mesh.{kind_at}
 use Rattle.tb_walk.specs.Spreading.{flag}
-use Rattle.tb_walk.proofs.Meshes.{IsAir, IsOfSolid, air_or_solid, high_air, is_of_solid, kind_between_next, low_air, not_solid, surface_above, surface_below}
+use Rattle.tb_walk.proofs.Meshes.{IsAir, air_or_solid, high_air, is_of_solid, kind_between_next, low_air, not_solid, surface_above, surface_below}
 use Rattle.tb_outlets.specs.declared.side.Side.{Side}
 use Rattle.tb_outlets.specs.declared.side.Side.TheVariants.{Low, High}
 use Rattle.tb_outlets.specs.Searching.{HasOpeningAt}

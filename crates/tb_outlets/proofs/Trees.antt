@@ -1,16 +1,13 @@
 -- Outlets make a tree: the distance falls from a cell to the next along its outlet.
-use Rattle.std.proofs.Common.{◌≡◌, ◌≢◌, inl, inr, ℕ, ◌+◌, ◌<◌, arith, add-one, refl, sym, ap, subst, ◌∙◌}
-use Rattle.std.specs.Prelude.{Option}
+use Rattle.std.proofs.Common.{◌≡◌, ◌≢◌, inl, inr, ℕ, ◌<◌, arith, refl, sym, ap, subst, ◌∙◌}
 use Rattle.std.proofs.Math.Decide.{ℕ_discrete}
 use Rattle.tb_places.specs.declared.AxisName.{AxisName}
-use Rattle.tb_places.specs.declared.AxisName.TheVariants.{X, Y, Z}
 use Rattle.tb_places.specs.declared.Place.{Place}
 use Rattle.tb_places.specs.Inverse.{cell_place}
-use Rattle.tb_places.specs.Places.{Counts, IsCell, cell_number}
+use Rattle.tb_places.specs.Places.{Counts, cell_number}
 use Rattle.tb_places.proofs.Cells.{cell_number_of_place}
-use Rattle.tb_detail.specs.declared.Content.{Content}
 use Rattle.tb_places.specs.Along.{ahead}
-use Rattle.tb_model.specs.Mesh.{Mesh, below, above, kind_between}
+use Rattle.tb_model.specs.Mesh.{Mesh}
 use Rattle.tb_model.specs.declared.FaceKind.TheVariants.{Inner}
 use Rattle.tb_walk.specs.Isolated.{IsSolidCell, IsSurface}
 use Rattle.tb_model.specs.Mesh.{kind_at}

@@ -18,4 +18,5 @@ pub use balancing::MOST_FLOW;
 pub use marks::Mark;
 pub use repairing::repair;
 pub use side::Side;
+pub use surfaces::surface_cell;
 pub use tree::{Tree, plant, repair_along};

@@ -9,11 +9,7 @@ use crate::side::Side;
 use tb_grid::{CellCounts, CellId, FaceId, FacePlace};
 
 /// The cell of the set on a side of which a face is, where a cell that isn't in the set is on the other.
-pub(crate) fn surface_cell(
-    counts: CellCounts,
-    solid: &[bool],
-    face: FaceId,
-) -> Option<(CellId, Side)>
+pub fn surface_cell(counts: CellCounts, solid: &[bool], face: FaceId) -> Option<(CellId, Side)>
     requires face { face.0 < face_count (along_axes counts) }
     requires solid { length solid.now ≡ cell_count (along_axes counts) }
     ensures { MatchOption result ((c : ℕ) (s : Side) → ¬ IsOpening (along_axes counts) solid.now face.0 c s)

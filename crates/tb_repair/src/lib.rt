@@ -7,5 +7,4 @@
 mod repair_work;
 
 pub use repair_work::{RepairWork, repair};
-
 pub use tb_trees::NoMemory;

@@ -1,35 +1,33 @@
 -- In an accepted body there is air, and so no solid cell of any grid that carries it is isolated.
-use Rattle.std.proofs.Common.{◌≡◌, ℕ, ◌-◌, ◌<◌, ◌≤◌, List, length, get_or, Some, None, inl, inr, refl, sym, ap, subst, ◌∙◌, arith}
-use Rattle.std.specs.List.{Any, Contains}
+use Rattle.std.proofs.Common.{◌≡◌, ℕ, ◌<◌, List, length, get_or, Some, inl, inr, sym, ap, subst, ◌∙◌, arith}
+use Rattle.std.specs.List.{Contains}
 use Rattle.std.specs.Prelude.{Option}
 use Rattle.std.specs.Option.{option_map}
 use Rattle.tb_places.specs.declared.AxisName.{AxisName}
 use Rattle.tb_places.specs.declared.AxisName.TheVariants.{X, Y, Z}
 use Rattle.tb_places.specs.declared.Place.{Place}
 use Rattle.tb_places.specs.Places.{IsCell, place_at}
-use Rattle.tb_detail.specs.declared.Content.{Content}
 use Rattle.tb_detail.specs.declared.Content.TheVariants.{Air}
 use Rattle.tb_detail.specs.declared.Detail.{Detail}
 use Rattle.tb_detail.specs.declared.SpaceBox.{SpaceBox}
 use Rattle.tb_detail.specs.Limits.{InLimits}
 use Rattle.tb_grid.specs.Axis.{interval_count}
-use Rattle.tb_grid.specs.Grid.{Axes, counts_of, lines_of}
+use Rattle.tb_grid.specs.Grid.{Axes, lines_of}
 use Rattle.tb_grid.proofs.RisingLists.{before_from, line_of_member}
-use Rattle.tb_model.specs.Mesh.{Mesh}
 use Rattle.tb_model.specs.Refinement.{high, low}
 use Rattle.tb_walk.specs.Isolated.{HasSurface, IsFilled, IsSolidCell, NoneIsolated}
 use Rattle.tb_walk.proofs.Sets.{exit_in_set}
 use Rattle.tb_walk.proofs.Together.{none_isolated}
 use Rattle.tb_outlets.specs.declared.side.Side.TheVariants.{Low, High}
-use Rattle.tb_outlets.proofs.SurfaceSides.{HasAirAt, beyond_surface}
+use Rattle.tb_outlets.proofs.SurfaceSides.{beyond_surface}
 use Rattle.tb_geometry.specs.Base.{IsBaseCell, base_mesh}
 use Rattle.tb_geometry.specs.Bodies.{AreBoxes, IsProper}
 use Rattle.tb_geometry.specs.Cubes.{HoldsCube, IsInHull, IsInHullOn, ReachesOver}
-use Rattle.tb_geometry.specs.Faults.{IsAccepted, IsSolidBox}
+use Rattle.tb_geometry.specs.Faults.{IsAccepted}
 use Rattle.tb_geometry.specs.Grids.{CarriesBody, mesh_on}
 use Rattle.tb_geometry.proofs.Covers.{base_cell_of_cube, hull_cell}
 use Rattle.tb_geometry.proofs.Finer.{carried_has_lines}
-use Rattle.tb_geometry.proofs.Middles.{HasBoxLines, HoldsLowCorner, found_box}
+use Rattle.tb_geometry.proofs.Middles.{HoldsLowCorner, found_box}
 use Rattle.tb_geometry.proofs.Occupants.{cell_filled, occupant_holds}
 use Rattle.tb_geometry.proofs.Steps.{boxes_in_limits}
 use Rattle.tb_geometry.proofs.Whole.{cell_in_box}

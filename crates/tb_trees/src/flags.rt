@@ -31,11 +31,7 @@ fn is_solid(body: &Body, grid: &Grid, cell: CellId) -> bool
 ///
 /// # Errors
 /// Memory ran out.
-pub(crate) fn solid_cells(
-    alloc: Global,
-    body: &Body,
-    grid: &Grid,
-) -> Result<Vec<bool>, AllocError>
+pub(crate) fn solid_cells(alloc: Global, body: &Body, grid: &Grid) -> Result<Vec<bool>, AllocError>
     requires accepted { IsAccepted body.now }
     requires carries { CarriesBody grid.now body.now }
     ensures count { IfOk result (λ flags. length flags.items ≡ cell_count (counts_of grid.now)) }

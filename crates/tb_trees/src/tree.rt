@@ -1,5 +1,5 @@
 // The outlet tree of a body on a grid.
-ghost use Rattle.std.specs.Prelude.{◌≡◌, ◌<◌, IfOk, MatchOption, length};
+ghost use Rattle.std.specs.Prelude.{◌≡◌, ◌↔◌, ◌+◌, ◌*◌, ◌<◌, ◌≤◌, ◌^◌, ℕ, List, ℤ, IfOk, IsTrue, MatchOption, length, unsigned_abs};
 ghost use Rattle.tb_detail.specs.Limits.{InLimits};
 ghost use Rattle.tb_grid.specs.Grid.{counts_of};
 ghost use Rattle.tb_geometry.specs.Faults.{IsAccepted};
@@ -11,6 +11,7 @@ use crate::memory::NoMemory;
 use std::alloc::{AllocError, Global};
 use std::marker::Model;
 use std::snapshot::Snapshot;
+use tb_cycles::{CycleEntry, FacePull, cycle_entry, cycle_pull};
 use tb_geometry::Body;
 use tb_grid::{CellCounts, CellId, FaceId, Grid};
 use tb_outlets::{Tree, plant, repair_along};
@@ -23,17 +24,21 @@ fn judged(body: &Body)
     body.base();
 }
 
-// The tree, and of each face whether heat may pass it.
-fn grown(alloc: Global, body: &Body, grid: &Grid) -> Result<(Tree, Vec<bool>), AllocError>
+// The tree, of each face whether heat may pass it, and of each cell whether it is solid.
+fn grown(
+    alloc: Global,
+    body: &Body,
+    grid: &Grid,
+) -> Result<(Tree, Vec<bool>, Vec<bool>), AllocError>
     requires { CarriesBody grid.now body.now }
     ensures { IfOk result (λ made. KeepsTree (record { body = body.now; grid = grid.now }) (counts_of grid.now)
-        made.0.marks.items made.0.sides.items made.0.order.items made.1.items) }
+        made.0.marks.items made.0.sides.items made.0.order.items made.1.items made.2.items) }
 {
     judged(body);
     let solid = solid_cells(alloc, body, grid)?;
     let tree = plant(alloc, grid.counts(), solid.as_slice())?;
     let passable = passable_faces(alloc, grid.counts(), solid.as_slice())?;
-    Ok((tree, passable))
+    Ok((tree, passable, solid))
 }
 
 /// The outlet tree of a body on a grid: distances and outlets of its solid cells, and the order in which a repair
@@ -45,6 +50,7 @@ pub struct OutletTree {
     counts: CellCounts,
     tree: Tree,
     passable: Vec<bool>,
+    solid: Vec<bool>,
 }
 
 impl Model for OutletTree {
@@ -56,15 +62,17 @@ impl Model for OutletTree {
     ghost view = { λ t. record { body = t.body.value; grid = t.grid.value } };
 
     ghost invariant = { λ t. KeepsTree (record { body = t.body.value; grid = t.grid.value }) (along_axes t.counts)
-        t.tree.marks.items t.tree.sides.items t.tree.order.items t.passable.items };
+        t.tree.marks.items t.tree.sides.items t.tree.order.items t.passable.items t.solid.items };
 }
 
 impl OutletTree {
     ghost use Rattle.tb_places.specs.Places.{cell_count, face_count};
     ghost use Rattle.tb_outlets.specs.Balancing.{IsWithinLimits};
     ghost use Rattle.tb_outlets.specs.Outlets.{IsSolidAt};
-    ghost use Rattle.tb_outlets.specs.Repair.{IsRepairAnswer};
+    ghost use Rattle.tb_outlets.specs.Repair.{IsCycle, IsRepairAnswer, IsRepaired};
+    ghost use Rattle.tb_cycles.specs.Ways.{most_pull, sum_over};
     ghost use Rattle.tb_outlets.specs.Trees.{IsDistanceAt, IsOutletNumber};
+    ghost use Rattle.tb_cycles.specs.Entries.{HasCycle, IsEntry};
     ghost use Rattle.tb_trees.specs.Bodies.{mesh_of};
 
     /// The tree of a body on a grid that carries it. It takes all memory that repairs and cycles need.
@@ -75,13 +83,14 @@ impl OutletTree {
         requires { CarriesBody grid.now body.now }
         ensures { IfOk result (λ tree. tree ≡ record { body = body.now; grid = grid.now }) }
     {
-        let (tree, passable) = grown(alloc, body, grid)?;
+        let (tree, passable, solid) = grown(alloc, body, grid)?;
         Ok(OutletTree {
             body: Snapshot::of(body),
             grid: Snapshot::of(grid),
             counts: grid.counts(),
             tree,
             passable,
+            solid,
         })
     }
     /// The number of the grid's faces.
@@ -114,7 +123,8 @@ impl OutletTree {
         requires given { length given.now ≡ face_count (counts_of self.now.grid) }
         requires values { length values.old ≡ face_count (counts_of self.now.grid) }
         requires limits { IsWithinLimits given.now }
-        ensures { IsRepairAnswer (mesh_of self.now) given.now result values.new }
+        ensures repaired { IsRepairAnswer (mesh_of self.now) given.now result values.new }
+        ensures one { (v w : List ℤ) → IsRepaired (mesh_of self.now) given.now v → IsRepaired (mesh_of self.now) given.now w → v ≡ w }
     {
         repair_along(
             self.counts,
@@ -122,6 +132,46 @@ impl OutletTree {
             self.passable.as_slice(),
             given,
             values,
+        )
+    }
+
+    /// Where the cycle of a face enters, if the face has one: if it is a surface face and not a root.
+    pub fn cycle_entry(&self, face: FaceId) -> Option<CycleEntry>
+        requires { face.0 < face_count (counts_of self.now.grid) }
+        ensures { MatchOption result (¬ HasCycle (mesh_of self.now) face.0) (λ entry. IsEntry (mesh_of self.now) face.0 entry.cell.0 entry.side) }
+    {
+        cycle_entry(
+            self.counts,
+            self.solid.as_slice(),
+            self.tree.sides.as_slice(),
+            face,
+        )
+    }
+
+    /// Whether a face has a cycle: whether it is a surface face and not a root.
+    pub fn has_cycle(&self, face: FaceId) -> bool
+        requires { face.0 < face_count (counts_of self.now.grid) }
+        ensures { IsTrue result ↔ HasCycle (mesh_of self.now) face.0 }
+    {
+        self.cycle_entry(face).is_some()
+    }
+
+    /// The sum over all faces of what is told of a face times the flow of a cycle through it, by one walk along the
+    /// outlets. It takes no memory.
+    pub fn cycle_pull<P: FacePull>(&self, pulls: &P, entry: CycleEntry) -> i128
+        requires fits { P.fits (counts_of self.now.grid) pulls.now }
+        requires entry { (f : ℕ) × IsEntry (mesh_of self.now) f entry.cell.0 entry.side }
+        ensures value { (f : ℕ) (flows : List ℤ) → IsEntry (mesh_of self.now) f entry.cell.0 entry.side
+            → IsCycle (mesh_of self.now) entry.cell.0 entry.side flows
+            → result ≡ sum_over (mesh_of self.now).cells flows (P.pulls pulls.now) }
+        ensures size { unsigned_abs result ≤ 2 ^ 18 * most_pull + most_pull }
+    {
+        cycle_pull(
+            self.counts,
+            self.tree.marks.as_slice(),
+            self.tree.sides.as_slice(),
+            pulls,
+            entry,
         )
     }
 }

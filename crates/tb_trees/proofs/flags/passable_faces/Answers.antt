@@ -1,4 +1,4 @@
-use Rattle.std.proofs.Common.{ap, arith, ◌∙◌}
+use Rattle.std.proofs.Common.{arith}
 use Rattle.tb_trees.proofs.Passable.{all_faces, face_next}
 use Rattle.tb_trees.proofs.flags.passable_faces.Goals as goal
 

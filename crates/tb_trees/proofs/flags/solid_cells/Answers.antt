@@ -1,4 +1,4 @@
-use Rattle.std.proofs.Common.{arith, sym}
+use Rattle.std.proofs.Common.{arith}
 use Rattle.tb_grid.specs.Grid.{counts_of}
 use Rattle.tb_geometry.specs.Grids.{mesh_on}
 use Rattle.tb_trees.proofs.Filled.{told_all, told_next}

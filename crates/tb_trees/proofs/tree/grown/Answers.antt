@@ -17,4 +17,6 @@ returns c =
           (none_isolated_on d g c.judged.ensures.limits c.judged.ensures.accepted c.requires);
       passes = c.in_ok-passable.ensures m (counts_read d g c.counts-2.result.x c.counts-2.result.y c.counts-2.result.z two.on_x two.on_y two.on_z)
           (marks_read d g c.in_ok-solid.solid.items c.as_slice-2.result.now c.as_slice-2.ensures.value marked);
+      solids = marks_read d g c.in_ok-solid.solid.items c.in_ok-solid.solid.items refl marked;
+      each = c.in_ok-solid.ensures.count;
     }
