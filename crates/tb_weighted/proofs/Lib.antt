@@ -16,3 +16,5 @@ pub mod Bridge
 pub mod FlowLaws
 pub mod TwoFaces
 pub mod FlowBridge
+pub mod SameFlows
+pub mod FlowMoves

@@ -1,0 +1,31 @@
+-- Moves of a flux on a form of flows: what goes round an edge, where not every face counts.
+use Rattle.std.specs.Prelude.{◌≡◌, ℕ, Bool, true, false, List, length, ℤ, pos}
+use Rattle.tb_places.specs.declared.AxisName.{AxisName}
+use Rattle.tb_places.specs.declared.Place.{Place}
+use Rattle.tb_places.specs.Places.{face_number, place_at, IsFace}
+use Rattle.tb_model.specs.declared.FaceKind.{FaceKind}
+use Rattle.tb_model.specs.declared.FaceKind.TheVariants.{Idle}
+use Rattle.tb_weighted.specs.Flows.{FlowForms, Flows3, flow_energy}
+use Rattle.tb_weighted.specs.Least.{IsNearestLeastOf}
+use Rattle.tb_weighted.specs.Moves.{KeepsLimits, round_edge, value_at, with_multiple}
+
+-- where a face counts, else nothing
+abbrev pub counted : Bool → ℤ → ℤ
+counted true x = x
+counted false x = pos 0
+
+-- a face of this kind counts
+abbrev pub counts_as : FaceKind → Bool
+counts_as Idle = false
+counts_as _ = true
+
+-- the loop of an edge: faces that don't count are left out
+abbrev pub loop_where : (AxisName → ℕ → ℕ → ℕ → Bool) → AxisName → Place → Flows3
+loop_where counts axis e a i j k = counted (counts a i j k) (round_edge axis e a i j k)
+
+-- a multiple of a change is added: of the multiples within the limits that make the form least, the one nearest to 0
+pub record IsFlowMove (f : FlowForms) (change : Flows3) (old new : List ℤ) : Type 0 where
+  pub multiple : ℤ
+  pub least : IsNearestLeastOf (λ t. flow_energy f (with_multiple f.cells old change t)) (λ t. KeepsLimits f.cells (with_multiple f.cells old change t)) (pos 0) multiple
+  pub faces : length new ≡ length old
+  pub added : (a : AxisName) (i j k : ℕ) → IsFace f.cells a (place_at i j k) → value_at new (face_number f.cells a (place_at i j k)) ≡ with_multiple f.cells old change multiple a i j k
