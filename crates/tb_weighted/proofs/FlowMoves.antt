@@ -1,17 +1,15 @@
 -- Moves of a form of flows are moves of the mesh, and one that changes the flux changes it by a multiple other than 0.
 use mathlib.Core.Path.{◌≡◌, refl, sym, ap, ◌∙◌, subst}
 use mathlib.Core.List.{List, [], ◌∷◌}
-use mathlib.Core.Bool.{Bool, true, false}
+use mathlib.Core.Bool.{Bool}
 use Prim.Native.Nat.{ℕ, ◌<◌, ◌≤◌}
 use native.Mathlib.Omega.{arith}
-use Rattle.std.proofs.Common.{length}
 use Rattle.std.proofs.lemmas.Int.{ints}
 use Rattle.std.proofs.lemmas.List.{get_or_default}
 use lib.IntN.{ℤ, pos, ◌+ℤ◌, ◌*ℤ◌}
 use lib.Signed.{◌≤ℤ◌}
 use Rattle.tb_math.proofs.ReadIntegers.{by_reading, reading}
 use Rattle.tb_places.specs.declared.AxisName.{AxisName}
-use Rattle.tb_places.specs.declared.FacePlace.{FacePlace}
 use Rattle.tb_places.specs.declared.Place.{Place}
 use Rattle.tb_places.specs.Inverse.{face_place}
 use Rattle.tb_places.specs.Places.{Counts, IsFace, face_count, face_number, place_at}

@@ -18,3 +18,6 @@ pub mod TwoFaces
 pub mod FlowBridge
 pub mod SameFlows
 pub mod FlowMoves
+pub mod FlowSlopes
+pub mod Through
+pub mod Rounds

@@ -2,7 +2,7 @@
 use mathlib.Core.Path.{◌≡◌, refl}
 use Prim.Native.Nat.{ℕ, suc, ◌<◌, ◌≤◌}
 use native.Mathlib.Omega.{arith}
-use lib.IntN.{ℤ, pos, ◌+ℤ◌, ◌*ℤ◌}
+use lib.IntN.{ℤ, ◌+ℤ◌, ◌*ℤ◌}
 use Rattle.tb_math.proofs.SumLaws.{sum-cong}
 use Rattle.tb_math.proofs.SumInstances.{adds_ℤ}
 use Rattle.tb_places.specs.declared.AxisName.{AxisName}
