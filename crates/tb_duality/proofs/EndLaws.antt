@@ -10,7 +10,7 @@ use Rattle.tb_math.proofs.RationalOrder.{≤ℚ-add, ≤ℚ-refl, ≤ℚ-trans}
 use Rattle.tb_math.proofs.RationalProducts.{≤ℚ-neg}
 use Rattle.tb_math.proofs.StrictOrder.{<ℚ-add}
 use Rattle.tb_math.proofs.ReadRationals.{by_reading, reading}
-use Rattle.tb_math.proofs.CeilingLaws.{ceiling-above}
+use Rattle.tb_math.proofs.CeilingLaws.{ceiling-above, floor-int}
 use Rattle.tb_math.proofs.SumsOfCeilings.{rounds-none, rounds-one, rounds-plus}
 use Rattle.tb_model.specs.Mesh.{Mesh}
 use Rattle.tb_model.specs.Energy.{Case, Field, Flux, Terms, IsBalanced, exact, rounded_up, number_of_terms, field_terms, flux_terms, energy, source, bound, upper_end, lower_end}
@@ -86,7 +86,7 @@ unfolding lower_end bound
 lower_end_near m inside q z whole some =
     subst (λ (t : ℚ). t -ℚ exact m (flux_terms m q) <ℚ int (floor t -ℤ rounded_up m (flux_terms m q)) +ℚ int (pos (number_of_terms m (flux_terms m q)))) (sym whole)
     (subst (λ (t : ℤ). int z -ℚ exact m (flux_terms m q) <ℚ int (t -ℤ rounded_up m (flux_terms m q)) +ℚ int (pos (number_of_terms m (flux_terms m q)))) (sym (floor-int z))
-    (subst (λ (t : ℚ). int z -ℚ exact m (flux_terms m q) <ℚ t +ℚ int (pos (number_of_terms m (flux_terms m q)))) (sym (difference z (rounded_up m (flux_terms m q))))
+    (subst (λ (t : ℚ). int z -ℚ exact m (flux_terms m q) <ℚ t +ℚ int (pos (number_of_terms m (flux_terms m q)))) (sym (int-difference z (rounded_up m (flux_terms m q))))
     (less (int z) (exact m (flux_terms m q)) (int (rounded_up m (flux_terms m q))) (int (pos (number_of_terms m (flux_terms m q)))) ((terms_near m (flux_terms m q)).strictly some))))
   where
     less : (s l u n : ℚ) → u <ℚ l +ℚ n → s -ℚ l <ℚ (s -ℚ u) +ℚ n

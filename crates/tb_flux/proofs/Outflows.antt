@@ -3,7 +3,7 @@ use Rattle.std.proofs.Common.{◌≡◌, ℕ, suc, ◌+◌, Some, None, Option, 
 use Rattle.std.specs.Prelude.{◌-ℤ◌, slice_index_or}
 use Rattle.std.specs.Option.{option_map}
 use Rattle.tb_math.specs.Rational.{ℚ, int, ◌+ℚ◌, ◌-ℚ◌}
-use Rattle.tb_math.proofs.RationalLaws.{int-add}
+use Rattle.tb_math.proofs.RationalLaws.{int-difference, int-add}
 use Rattle.tb_places.specs.declared.AxisName.TheVariants.{X, Y, Z}
 use Rattle.tb_places.specs.declared.Place.{Place}
 use Rattle.tb_places.specs.Inverse.{cell_place}
@@ -13,7 +13,6 @@ use Rattle.tb_detail.specs.declared.Content.TheVariants as content
 use Rattle.tb_detail.specs.declared.Material.{Material}
 use Rattle.tb_model.specs.Energy.{outflow}
 use Rattle.tb_model.specs.Values.{flux_of}
-use Rattle.tb_field.proofs.Differences.{int-difference}
 use Rattle.tb_geometry.specs.Bodies.{filled_with}
 use Rattle.tb_geometry.specs.declared.occupant.Occupant.TheVariants.{Solid}
 use Rattle.tb_flux.specs.Fluxes.{leaving_at}

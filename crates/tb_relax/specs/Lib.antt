@@ -1,3 +1,5 @@
 pub mod Tables
 pub mod Sites
 pub mod Parts
+pub mod Joining
+pub mod Rounds

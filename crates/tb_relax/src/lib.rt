@@ -6,16 +6,19 @@
 #![tactic(auto)]
 
 mod flow;
+mod joining;
 mod loops;
 mod node;
 mod part;
 mod pull;
 mod reverse;
+mod round;
 mod site;
 mod sound;
 mod table;
 
-pub use part::Part;
+pub use joining::Reach;
+pub use part::{Part, Parts};
 pub use pull::{Pull, Side};
-pub use site::Site;
+pub use site::{Round, Site};
 pub use table::{CellWeights, FaceWeight, Table};

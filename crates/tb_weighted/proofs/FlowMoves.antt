@@ -21,7 +21,7 @@ use Rattle.tb_model.specs.Energy.{Case}
 use Rattle.tb_weighted.specs.Least.{IsNearestLeastOf, apart}
 use Rattle.tb_weighted.specs.Limits.{IsFlux, InFlow}
 use Rattle.tb_weighted.specs.Flows.{FlowForms, Flows3, flow_energy}
-use Rattle.tb_weighted.specs.FlowMoves.{counted, counts_as, loop_where, IsFlowMove}
+use Rattle.tb_weighted.specs.FlowMoves.{counted, counts_as, loop_where, IsFlowMove, IsFlowMoveBy}
 use Rattle.tb_weighted.specs.Moves.{IsLoopMove, KeepsLimits, loop_of, round_edge, unless_idle, value_at, whole_flux, with_multiple}
 use Rattle.tb_weighted.specs.OnMesh.{IsFlowFormOf}
 use Rattle.tb_weighted.specs.Weighted.{weighted_flux}
@@ -70,10 +70,10 @@ module _ (m : Mesh) (inside : Case) (f : FlowForms) (counts : AxisName → ℕ �
   loop_move h = record {
     multiple = h.multiple;
     least = least_same (λ t. flow_energy f (with_multiple f.cells old (loop_where counts axis e) t)) (λ t. weighted_flux m inside (whole_flux (with_multiple m.cells old (loop_of m axis e) t)))
-        (λ t. KeepsLimits f.cells (with_multiple f.cells old (loop_where counts axis e) t)) (λ t. KeepsLimits m.cells (with_multiple m.cells old (loop_of m axis e) t)) same_energy keeps_forth keeps_back (pos 0) h.multiple h.least;
-    faces = h.faces;
+        (λ t. KeepsLimits f.cells (with_multiple f.cells old (loop_where counts axis e) t)) (λ t. KeepsLimits m.cells (with_multiple m.cells old (loop_of m axis e) t)) same_energy keeps_forth keeps_back (pos 0) h.multiple h.move.least;
+    faces = h.move.faces;
     added = λ a i j k within.
-        subst (λ (n : Counts). (a : AxisName) (i j k : ℕ) → IsFace n a (place_at i j k) → value_at new (face_number n a (place_at i j k)) ≡ with_multiple n old (loop_where counts axis e) h.multiple a i j k) form.cells h.added a i j k within
+        subst (λ (n : Counts). (a : AxisName) (i j k : ℕ) → IsFace n a (place_at i j k) → value_at new (face_number n a (place_at i j k)) ≡ with_multiple n old (loop_where counts axis e) h.multiple a i j k) form.cells h.move.added a i j k within
         ∙ same_flow h.multiple a i j k within;
   }
 
@@ -87,17 +87,25 @@ near_none t h = omega (arith, ints)
 no_less : (x y : ℤ) → x ≡ y → x ≤ℤ y
 no_less x y e = omega (arith, ints)
 
-module _ (f : FlowForms) (change : Flows3) (old new : List ℤ) (h : IsFlowMove f change old new) where
+module _ (f : FlowForms) (change : Flows3) (t : ℤ) (old new : List ℤ) (h : IsFlowMoveBy f change t old new) where
   -- a multiple that leaves the flux as it was is none, since none is as good and nearer
-  pub none_added : IsFlux f.cells old → new ≡ old → h.multiple ≡ pos 0
-  none_added flux same = near_none h.multiple (h.least.nearest (pos 0) keeps (no_less _ _ (flows_same f (with_multiple f.cells old change (pos 0)) (with_multiple f.cells old change h.multiple) equal)))
+  pub none_added : IsFlux f.cells old → new ≡ old → t ≡ pos 0
+  none_added flux same = near_none t (h.least.nearest (pos 0) keeps (no_less _ _ (flows_same f (with_multiple f.cells old change (pos 0)) (with_multiple f.cells old change t) equal)))
     where
-      equal : (a : AxisName) (i j k : ℕ) → IsFace f.cells a (place_at i j k) → with_multiple f.cells old change (pos 0) a i j k ≡ with_multiple f.cells old change h.multiple a i j k
+      equal : (a : AxisName) (i j k : ℕ) → IsFace f.cells a (place_at i j k) → with_multiple f.cells old change (pos 0) a i j k ≡ with_multiple f.cells old change t a i j k
       equal a i j k within = no_more (value_at old (face_number f.cells a (place_at i j k))) _ (change a i j k) (ap (λ (l : List ℤ). value_at l (face_number f.cells a (place_at i j k))) same) ∙ h.added a i j k within
 
       keeps : KeepsLimits f.cells (with_multiple f.cells old change (pos 0))
       keeps a i j k within = subst (λ (z : ℤ). InFlow z) (sym (no_more (value_at old (face_number f.cells a (place_at i j k))) (value_at old (face_number f.cells a (place_at i j k))) (change a i j k) refl))
           (flux.within (face_number f.cells a (place_at i j k)) (pos 0) (let b = face_number_below f.cells a (place_at i j k) within in omega (arith, flux.faces)))
+
+  -- one by 0 may as well leave it
+  pub none_moved : t ≡ pos 0 → IsFlowMoveBy f change t old old
+  none_moved e = record {
+    least = h.least;
+    faces = refl;
+    added = λ a i j k within. sym (ap (λ (z : ℤ). value_at old (face_number f.cells a (place_at i j k)) +ℤ z *ℤ change a i j k) e ∙ no_more (value_at old (face_number f.cells a (place_at i j k))) (value_at old (face_number f.cells a (place_at i j k))) (change a i j k) refl);
+  }
 
   -- a move keeps the limits
   pub flux_kept : IsFlux f.cells old → IsFlux f.cells new

@@ -18,7 +18,7 @@ use Rattle.tb_places.specs.Places.{IsFace, along, face_count, face_number, place
 use Rattle.tb_places.proofs.Faces.{face_number_below}
 use Rattle.tb_weighted.specs.Forms.{bit}
 use Rattle.tb_weighted.specs.Flows.{FlowForms, Flows3, flow_energy, flow_rate, flow_slope, flows_of}
-use Rattle.tb_weighted.specs.FlowMoves.{IsFlowMove, counted, through}
+use Rattle.tb_weighted.specs.FlowMoves.{IsFlowMoveBy, counted, through}
 use Rattle.tb_weighted.specs.Least.{IsNearestLeastOf, apart, parabola}
 use Rattle.tb_weighted.specs.Limits.{InFlow, IsFlux}
 use Rattle.tb_weighted.specs.Moves.{KeepsLimits, value_at, with_multiple}
@@ -265,9 +265,8 @@ module _ (f : FlowForms) (counts : AxisName → ℕ → ℕ → ℕ → Bool) (a
     -- the least multiple of the four parabolas, within a range W
     pub round_move : (flux : IsFlux f.cells old) (rate slope step : ℤ) (W : ℤ → Type 0) → rate ≡ flow_rate f round_where → slope ≡ flow_slope f (flows_of f.cells old) round_where
         → IsNearestLeastOf (parabola rate slope) W (pos 0) step → W (pos 0) → Reaches old step → ((y : ℤ) → Reaches old y → W y ⊎ ((rate ≡ pos 0) × (slope ≡ pos 0)))
-        → IsFlowMove f round_where old (changed_by step)
+        → IsFlowMoveBy f round_where step old (changed_by step)
     round_move flux rate slope step W er es l none here within = record {
-      multiple = step;
       least = least_of (λ t. flow_energy f (with_multiple f.cells old round_where t)) (flow_rate f round_where) (flow_slope f (flows_of f.cells old) round_where) (flow_energy f (flows_of f.cells old)) rate slope
           (record { at = (flows_parabola f (flows_of f.cells old) round_where).at }) er es W (λ t. KeepsLimits f.cells (with_multiple f.cells old round_where t)) step l (keeps_all flux step here) none (λ y a. within y (reached y a));
       faces = length_four f.cells old counts_a counts_c counts_b counts_d number_a number_c number_b number_d step (below a (place_along a ai aj ak) h.face_a) (below c (place_along c ci cj ck) h.face_c) (below b (place_along b bi bj bk) h.face_b) (below d (place_along d di dj dk) h.face_d) h.c_a h.b_a h.b_c h.d_a h.d_c h.d_b;

@@ -38,8 +38,11 @@ through Z i j k Z = only_at j k i
 through _ i j k _ = λ x y z. pos 0
 
 -- a multiple of a change is added: of the multiples within the limits that make the form least, the one nearest to 0
-pub record IsFlowMove (f : FlowForms) (change : Flows3) (old new : List ℤ) : Type 0 where
-  pub multiple : ℤ
+pub record IsFlowMoveBy (f : FlowForms) (change : Flows3) (multiple : ℤ) (old new : List ℤ) : Type 0 where
   pub least : IsNearestLeastOf (λ t. flow_energy f (with_multiple f.cells old change t)) (λ t. KeepsLimits f.cells (with_multiple f.cells old change t)) (pos 0) multiple
   pub faces : length new ≡ length old
   pub added : (a : AxisName) (i j k : ℕ) → IsFace f.cells a (place_at i j k) → value_at new (face_number f.cells a (place_at i j k)) ≡ with_multiple f.cells old change multiple a i j k
+
+pub record IsFlowMove (f : FlowForms) (change : Flows3) (old new : List ℤ) : Type 0 where
+  pub multiple : ℤ
+  pub move : IsFlowMoveBy f change multiple old new

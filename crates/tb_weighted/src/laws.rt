@@ -8,7 +8,7 @@ ghost use Rattle.tb_model.specs.Energy.{Case};
 ghost use Rattle.tb_model.specs.Values.{field_of};
 ghost use Rattle.tb_weighted.specs.Forms.{Forms, form_energy};
 ghost use Rattle.tb_weighted.specs.Least.{IsNearestLeast, parabola};
-ghost use Rattle.tb_weighted.specs.FlowMoves.{IsFlowMove, counts_as, loop_where};
+ghost use Rattle.tb_weighted.specs.FlowMoves.{IsFlowMove, IsFlowMoveBy, counts_as, loop_where};
 ghost use Rattle.tb_weighted.specs.Limits.{IsFlux};
 ghost use Rattle.tb_weighted.specs.Moves.{Flows, IsLoopMove, IsNodeMove, whole_flux};
 ghost use Rattle.tb_weighted.specs.Flows.{FlowForms, flow_energy};
@@ -43,6 +43,6 @@ pub fn flow_forms_are_energies()
 
 /// A move of a flux keeps the limits, and it is by a multiple other than 0 where it changes the flux.
 pub fn flow_moves_keep()
-    ensures limits { (f : FlowForms) (change : Flows) (old new : List ℤ) → IsFlowMove f change old new → IsFlux f.cells old → IsFlux f.cells new }
-    ensures changes { (f : FlowForms) (change : Flows) (old new : List ℤ) → (h : IsFlowMove f change old new) → IsFlux f.cells old → new ≡ old → h.multiple ≡ pos 0 }
+    ensures limits { (f : FlowForms) (change : Flows) (t : ℤ) (old new : List ℤ) → IsFlowMoveBy f change t old new → IsFlux f.cells old → IsFlux f.cells new }
+    ensures changes { (f : FlowForms) (change : Flows) (t : ℤ) (old new : List ℤ) → IsFlowMoveBy f change t old new → IsFlux f.cells old → new ≡ old → t ≡ pos 0 }
 {}
