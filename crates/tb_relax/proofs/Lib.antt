@@ -1,3 +1,3 @@
 pub mod Ranges
 pub mod Rounds
-pub mod Edges
+pub mod InnerEdges

@@ -1,14 +1,13 @@
 -- The least multiple that the code finds round an edge is a move of the form of flows.
-use Rattle.std.proofs.Common.{◌≡◌, ◌≢◌, ◌⊎◌, inl, inr, refl, sym, ap, ◌∙◌, subst, arith, ℕ, ◌*◌, ◌-◌, ◌^◌, ◌<◌, ◌≤◌, Bool, true, false, List, length, set, unsigned_abs}
-use Rattle.std.proofs.lemmas.Bool.{true≢false}
+use Rattle.std.proofs.Common.{◌≡◌, ◌≢◌, ◌⊎◌, inl, inr, refl, sym, ap, ◌∙◌, subst, arith, ℕ, ◌*◌, ◌-◌, ◌^◌, ◌<◌, ◌≤◌, Bool, true, false, List, set, unsigned_abs}
 use Rattle.std.proofs.lemmas.Int.{ints}
-use lib.IntN.{ℤ, pos, negsuc, ◌+ℤ◌, ◌-ℤ◌, ◌*ℤ◌, neg_ℤ}
+use lib.IntN.{ℤ, pos, negsuc, ◌+ℤ◌, ◌-ℤ◌, neg_ℤ}
 use lib.Signed.{◌≤ℤ◌}
 use Rattle.tb_places.specs.declared.AxisName.{AxisName}
 use Rattle.tb_places.specs.declared.AxisName.TheVariants.{X, Y, Z}
 use Rattle.tb_places.specs.declared.Place.{Place}
 use Rattle.tb_places.specs.Along.{place_along}
-use Rattle.tb_places.specs.Places.{Counts, IsFace, along, face_count, face_number, place_at, second, third}
+use Rattle.tb_places.specs.Places.{Counts, IsFace, along, face_number, second, third}
 use Rattle.tb_places.proofs.Faces.{face_number_apart}
 use Rattle.tb_weighted.specs.Flows.{FlowForms, flow_rate, flow_slope, flows_of}
 use Rattle.tb_weighted.specs.FlowMoves.{IsFlowMoveBy, counted, put_where, through}
@@ -27,7 +26,7 @@ use Rattle.tb_relax.specs.Joining.{AllGo, four_rates, four_slopes}
 use Rattle.tb_relax.specs.Parts.{Goes}
 use Rattle.tb_relax.specs.Rounds.{ArePartsOf, AreRound, IsBack, IsForth, counts_at, number_of, round_change}
 use Rattle.tb_relax.specs.Sites.{IsSite}
-use Rattle.tb_relax.specs.Tables.{face_counts_at, flow_on, flux_forms, rate_through, slope_through, table_counts}
+use Rattle.tb_relax.specs.Tables.{face_counts_at, flow_on, flux_forms, table_counts}
 
 -- ---- sites
 face_along : (n : Counts) (a : AxisName) (i j k : ℕ) → i ≤ n a → j < n (second a) → k < n (third a) → IsFace n a (place_along a i j k)
@@ -210,10 +209,15 @@ module _ (t : Table) (flows : List ℤ) (r : Round) (p : Parts) (flux : IsFlux (
   all_go : (y : ℤ) → Reached y → unsigned_abs y ≤ 2 * 10 ^ 12 → AllGo p y
   unfolding flux_forms
   all_go y h l = (
-    (forth_goes p.first.counts p.first.low p.first.high p.first.here y parts.first.low parts.first.high parts.first.part.range.low_idle parts.first.part.range.high_idle l (forth_from r.first p.first _ _ y parts.first counts_first here_first h.at_a),
-    back_goes p.first_back.counts p.first_back.low p.first_back.high p.first_back.here y parts.first_back.low parts.first_back.high parts.first_back.part.range.low_idle parts.first_back.part.range.high_idle l (back_from r.first_back p.first_back _ _ y parts.first_back counts_first_back here_first_back h.at_c)),
-    (forth_goes p.second.counts p.second.low p.second.high p.second.here y parts.second.low parts.second.high parts.second.part.range.low_idle parts.second.part.range.high_idle l (forth_from r.second p.second _ _ y parts.second counts_second here_second h.at_b),
-    back_goes p.second_back.counts p.second_back.low p.second_back.high p.second_back.here y parts.second_back.low parts.second_back.high parts.second_back.part.range.low_idle parts.second_back.part.range.high_idle l (back_from r.second_back p.second_back _ _ y parts.second_back counts_second_back here_second_back h.at_d)))
+    (
+      forth_goes p.first.counts p.first.low p.first.high p.first.here y parts.first.low parts.first.high parts.first.part.range.low_idle parts.first.part.range.high_idle l (forth_from r.first p.first _ _ y parts.first counts_first here_first h.at_a),
+      back_goes p.first_back.counts p.first_back.low p.first_back.high p.first_back.here y parts.first_back.low parts.first_back.high parts.first_back.part.range.low_idle parts.first_back.part.range.high_idle l (back_from r.first_back p.first_back _ _ y parts.first_back counts_first_back here_first_back h.at_c),
+    ),
+    (
+      forth_goes p.second.counts p.second.low p.second.high p.second.here y parts.second.low parts.second.high parts.second.part.range.low_idle parts.second.part.range.high_idle l (forth_from r.second p.second _ _ y parts.second counts_second here_second h.at_b),
+      back_goes p.second_back.counts p.second_back.low p.second_back.high p.second_back.here y parts.second_back.low parts.second_back.high parts.second_back.part.range.low_idle parts.second_back.part.range.high_idle l (back_from r.second_back p.second_back _ _ y parts.second_back counts_second_back here_second_back h.at_d),
+    ),
+  )
 
   not_far : (y : ℤ) → Reached y → AnyOf p.first.counts p.first_back.counts p.second.counts p.second_back.counts → unsigned_abs y ≤ 2 * 10 ^ 12
   unfolding flux_forms
@@ -232,11 +236,14 @@ module _ (t : Table) (flows : List ℤ) (r : Round) (p : Parts) (flux : IsFlux (
       cases (inl e) = inl (all_go y h (not_far y h e))
       cases (inr (e, g, k, l)) = inr (
         sum_none _ _ _ _ (parts.first.part.rate_idle e) (parts.first_back.part.rate_idle g) (parts.second.part.rate_idle k) (parts.second_back.part.rate_idle l),
-        sum_none _ _ _ _ (parts.first.part.slope_idle e) (parts.first_back.part.slope_idle g) (parts.second.part.slope_idle k) (parts.second_back.part.slope_idle l))
+        sum_none _ _ _ _ (parts.first.part.slope_idle e) (parts.first_back.part.slope_idle g) (parts.second.part.slope_idle k) (parts.second_back.part.slope_idle l),
+      )
 
   zero_goes : AllGo p (pos 0)
-  zero_goes = ((none_goes p.first.low p.first.high parts.first.part.range.under parts.first.part.range.over, none_goes p.first_back.low p.first_back.high parts.first_back.part.range.under parts.first_back.part.range.over),
-    (none_goes p.second.low p.second.high parts.second.part.range.under parts.second.part.range.over, none_goes p.second_back.low p.second_back.high parts.second_back.part.range.under parts.second_back.part.range.over))
+  zero_goes = (
+    (none_goes p.first.low p.first.high parts.first.part.range.under parts.first.part.range.over, none_goes p.first_back.low p.first_back.high parts.first_back.part.range.under parts.first_back.part.range.over),
+    (none_goes p.second.low p.second.high parts.second.part.range.under parts.second.part.range.over, none_goes p.second_back.low p.second_back.high parts.second_back.part.range.under parts.second_back.part.range.over),
+  )
 
   -- the flux with the change, as the code writes it
   abbrev pub written : ℤ → List ℤ

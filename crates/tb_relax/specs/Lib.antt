@@ -3,3 +3,4 @@ pub mod Sites
 pub mod Parts
 pub mod Joining
 pub mod Rounds
+pub mod Edges

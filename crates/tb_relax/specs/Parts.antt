@@ -1,5 +1,5 @@
 -- What a loop's change does at one of its faces.
-use Rattle.std.specs.Prelude.{◌≡◌, ◌*◌, ◌-◌, ◌^◌, ◌≤◌, Bool, true, false, ℤ, pos, negsuc, ◌≤ℤ◌, ◌<ℤ◌, unsigned_abs}
+use Rattle.std.specs.Prelude.{◌≡◌, ◌*◌, ◌-◌, ◌^◌, ◌≤◌, Bool, false, ℤ, pos, negsuc, ◌≤ℤ◌, ◌<ℤ◌, unsigned_abs}
 use Rattle.tb_relax.specs.declared.part.Part.{Part}
 use Rattle.tb_relax.specs.declared.part.Parts.{Parts}
 

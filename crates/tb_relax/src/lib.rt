@@ -5,6 +5,7 @@
 //! move of a loop does the same with the flux's energy and the four faces round an edge.
 #![tactic(auto)]
 
+mod edges;
 mod flow;
 mod joining;
 mod loops;

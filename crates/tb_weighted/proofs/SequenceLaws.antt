@@ -77,3 +77,17 @@ module _ (S M : Type 0) (move : M → S → S → Type 0) where
     where
       up : (n n' : ℕ) → n' ≡ n + 1 → suc n ≡ n'
       up n n' e = omega arith
+
+-- moves of one kind as moves of another, on the same states
+pub renamed : (S M N : Type 0) (move : M → S → S → Type 0) (other : N → S → S → Type 0) (g : M → N) → ((m : M) (old new : S) → move m old new → other (g m) old new)
+    → (ms : List M) (old new : S) (t : Bool) → AreMade S M move ms old new t → AreMade S N other (map g ms) old new t
+renamed S M N move other g h [] old new t r = r
+renamed S M N move other g h (m ∷ ms) old new t r = record {
+  mid = r.mid;
+  told_here = r.told_here;
+  told_after = r.told_after;
+  step = h m old r.mid r.step;
+  here = r.here;
+  after = renamed S M N move other g h ms r.mid new r.told_after r.after;
+  any = r.any;
+}

@@ -136,9 +136,13 @@ inner_edges n X = places (intervals (n X)) (inner_lines (n Y)) (inner_lines (n Z
 inner_edges n Y = places (inner_lines (n X)) (intervals (n Y)) (inner_lines (n Z))
 inner_edges n Z = places (inner_lines (n X)) (inner_lines (n Y)) (intervals (n Z))
 
--- all nodes, then all edges inside the hull, those along x first, along z last
+-- all edges inside the hull, those along x first, along z last
+abbrev pub loop_moves : Counts → List Move
+loop_moves n = map (Loop X) (inner_edges n X) ++ (map (Loop Y) (inner_edges n Y) ++ map (Loop Z) (inner_edges n Z))
+
+-- all nodes, then all edges inside the hull
 abbrev pub pass_moves : Counts → List Move
-pass_moves n = map Node (nodes n) ++ map (Loop X) (inner_edges n X) ++ map (Loop Y) (inner_edges n Y) ++ map (Loop Z) (inner_edges n Z)
+pass_moves n = map Node (nodes n) ++ loop_moves n
 
 abbrev pub IsPass : Mesh → Case → State → State → Bool → Type 0
 IsPass m inside old new told = AreMoves m inside (pass_moves m.cells) old new told

@@ -1,5 +1,5 @@
 use Rattle.tb_relax.specs.Tables.{flux_forms}
-use Rattle.tb_relax.proofs.Edges.{as_loop}
+use Rattle.tb_relax.proofs.InnerEdges.{as_loop}
 use Rattle.tb_relax.proofs.table.Table.relax_loop.Goals as goal
 
 pub returns-clause-moved : goal.returns-clause-moved

@@ -35,11 +35,13 @@ unfolding flux_forms
 returns-clause-told c =
     let s = c.multiple-step.ensures.size in
     let step : to_z w64 (of_z w64 c.multiple-step.result) ≡ c.multiple-step.result = omega (arith, ints) in
-    let same = c.put_all.ensures ∙ ap (written c.args.self.now c.args.flows.now c.args.round c.parts-parts.result c.requires.flux c.requires.round c.parts-parts.ensures) step in
-    ((λ d e. c.if-step-eq0.false (
-    let z = none_added (flux_forms c.args.self.now) (round_change c.args.self.now c.args.round) c.multiple-step.result c.args.flows.now _
-        (written_move c.args.self.now c.args.flows.now c.args.round c.parts-parts.result c.requires.flux c.requires.round c.parts-parts.ensures c.multiple-step.result c.multiple-step.ensures.least) c.requires.flux (sym same ∙ e) in
-    omega (arith, ints))), λ d. refl)
+    let same = c.put_all.ensures ∙ ap (written c.args.self.now c.args.flows.now c.args.round c.parts-parts.result c.requires.flux c.requires.round c.parts-parts.ensures) step in (
+      (λ d e. c.if-step-eq0.false (
+          let z = none_added (flux_forms c.args.self.now) (round_change c.args.self.now c.args.round) c.multiple-step.result c.args.flows.now _
+          (written_move c.args.self.now c.args.flows.now c.args.round c.parts-parts.result c.requires.flux c.requires.round c.parts-parts.ensures c.multiple-step.result c.multiple-step.ensures.least) c.requires.flux (sym same ∙ e) in
+          omega (arith, ints))),
+      λ d. refl,
+    )
 
 pub returns-clause-kept : goal.returns-clause-kept
 unfolding flux_forms
