@@ -4,3 +4,4 @@ pub mod Parts
 pub mod Joining
 pub mod Rounds
 pub mod Edges
+pub mod Passes

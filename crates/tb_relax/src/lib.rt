@@ -11,6 +11,7 @@ mod joining;
 mod loops;
 mod node;
 mod part;
+mod pass;
 mod pull;
 mod reverse;
 mod round;
