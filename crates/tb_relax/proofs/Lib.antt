@@ -1,0 +1,4 @@
+pub mod Ranges
+pub mod Rounds
+pub mod InnerEdges
+pub mod Passes

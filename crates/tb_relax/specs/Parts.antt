@@ -1,11 +1,7 @@
 -- What a loop's change does at one of its faces.
-use Rattle.std.specs.Prelude.{◌≡◌, ◌*◌, ◌-◌, ◌^◌, ◌≤◌, Bool, true, false, ℤ, pos, negsuc, ◌≤ℤ◌, ◌<ℤ◌, unsigned_abs}
+use Rattle.std.specs.Prelude.{◌≡◌, ◌*◌, ◌-◌, ◌^◌, ◌≤◌, Bool, false, ℤ, pos, negsuc, ◌≤ℤ◌, ◌<ℤ◌, unsigned_abs}
 use Rattle.tb_relax.specs.declared.part.Part.{Part}
-
--- where the face counts, else nothing
-abbrev pub counted : Bool → ℤ → ℤ
-counted true x = x
-counted false x = pos 0
+use Rattle.tb_relax.specs.declared.part.Parts.{Parts}
 
 -- how far a change may go: where the face is left out, further than where it counts
 pub record IsRange (counts : Bool) (low high : ℤ) : Type 0 where
@@ -23,3 +19,13 @@ pub record IsPart (p : Part) : Type 0 where
   pub rate_idle : p.counts ≡ false → p.pull.rate ≡ pos 0
   pub slope_idle : p.counts ≡ false → p.pull.slope ≡ pos 0
   pub range : IsRange p.counts p.low p.high
+
+-- a change that a face lets go so far
+abbrev pub Goes : Part → ℤ → Type 0
+Goes p t = (p.low ≤ℤ t) × (t ≤ℤ p.high)
+
+pub record ArePartsOfAll (p : Parts) : Type 0 where
+  pub first : IsPart p.first
+  pub first_back : IsPart p.first_back
+  pub second : IsPart p.second
+  pub second_back : IsPart p.second_back

@@ -5,17 +5,22 @@
 //! move of a loop does the same with the flux's energy and the four faces round an edge.
 #![tactic(auto)]
 
+mod edges;
 mod flow;
+mod joining;
 mod loops;
 mod node;
 mod part;
+mod pass;
 mod pull;
 mod reverse;
+mod round;
 mod site;
 mod sound;
 mod table;
 
-pub use part::Part;
+pub use joining::Reach;
+pub use part::{Part, Parts};
 pub use pull::{Pull, Side};
-pub use site::Site;
+pub use site::{Round, Site};
 pub use table::{CellWeights, FaceWeight, Table};

@@ -1,7 +1,8 @@
 // The parts that a loop has at its faces, and the multiple that makes their sum least.
 ghost use Rattle.std.specs.Prelude.{◌≡◌, ◌-◌, ◌^◌, ◌≤◌, IsTrue, pos, negsuc, ◌+ℤ◌, ◌-ℤ◌, ◌≤ℤ◌, unsigned_abs, neg_ℤ};
 ghost use Rattle.tb_weighted.specs.Limits.{IsFlux};
-ghost use Rattle.tb_relax.specs.Parts.{IsPart, counted};
+ghost use Rattle.tb_weighted.specs.FlowMoves.{counted};
+ghost use Rattle.tb_relax.specs.Parts.{IsPart};
 ghost use Rattle.tb_relax.specs.Sites.{IsSite};
 ghost use Rattle.tb_relax.specs.Tables.{IsTable, face_counts_at, flow_on, rate_through, slope_through, table_counts};
 

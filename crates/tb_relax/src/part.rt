@@ -1,4 +1,4 @@
-// What a loop's change does at one of its faces.
+// What a loop's change does at one of its faces, and at its four.
 
 use crate::pull::Pull;
 
@@ -10,4 +10,13 @@ pub struct Part {
     pub high: i64,
     pub here: i64,
     pub counts: bool,
+}
+
+/// Of two faces across one axis, which a loop passes forth and back, and of two across another.
+#[derive(Clone, Copy)]
+pub struct Parts {
+    pub first: Part,
+    pub first_back: Part,
+    pub second: Part,
+    pub second_back: Part,
 }

@@ -16,3 +16,8 @@ pub mod Bridge
 pub mod FlowLaws
 pub mod TwoFaces
 pub mod FlowBridge
+pub mod SameFlows
+pub mod FlowMoves
+pub mod FlowSlopes
+pub mod Through
+pub mod Rounds

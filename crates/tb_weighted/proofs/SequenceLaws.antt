@@ -77,3 +77,31 @@ module _ (S M : Type 0) (move : M → S → S → Type 0) where
     where
       up : (n n' : ℕ) → n' ≡ n + 1 → suc n ≡ n'
       up n n' e = omega arith
+
+-- moves of one kind as moves of another, on the same states
+pub renamed : (S M N : Type 0) (move : M → S → S → Type 0) (other : N → S → S → Type 0) (g : M → N) → ((m : M) (old new : S) → move m old new → other (g m) old new)
+    → (ms : List M) (old new : S) (t : Bool) → AreMade S M move ms old new t → AreMade S N other (map g ms) old new t
+renamed S M N move other g h [] old new t r = r
+renamed S M N move other g h (m ∷ ms) old new t r = record {
+  mid = r.mid;
+  told_here = r.told_here;
+  told_after = r.told_after;
+  step = h m old r.mid r.step;
+  here = r.here;
+  after = renamed S M N move other g h ms r.mid new r.told_after r.after;
+  any = r.any;
+}
+
+-- moves of one part of a state, while the rest stays
+pub lifted : (S T M : Type 0) (move : M → S → S → Type 0) (other : M → T → T → Type 0) (whole : S → T) → ((u v : S) → whole u ≡ whole v → u ≡ v) → ((m : M) (u v : S) → move m u v → other m (whole u) (whole v))
+    → (ms : List M) (old new : S) (t : Bool) → AreMade S M move ms old new t → AreMade T M other ms (whole old) (whole new) t
+lifted S T M move other whole part h [] old new t r = (ap whole r.0, r.1)
+lifted S T M move other whole part h (m ∷ ms) old new t r = record {
+  mid = whole r.mid;
+  told_here = r.told_here;
+  told_after = r.told_after;
+  step = h m old r.mid r.step;
+  here = ((λ d e. r.here.0 d (part r.mid old e)), (λ n. r.here.1 (λ e. n (ap whole e))));
+  after = lifted S T M move other whole part h ms r.mid new r.told_after r.after;
+  any = r.any;
+}

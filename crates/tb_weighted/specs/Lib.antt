@@ -6,3 +6,4 @@ pub mod Moves
 pub mod Forms
 pub mod Flows
 pub mod OnMesh
+pub mod FlowMoves

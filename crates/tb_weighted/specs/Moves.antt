@@ -2,7 +2,7 @@
 --
 -- A move of a node sets its value, a move of a loop adds a multiple of what goes round an edge: each to the least of
 -- the weighted energy within the limits, and the nearest to what it was.
-use Rattle.std.specs.Prelude.{◌≡◌, ℕ, zero, suc, ◌-◌, ◌^◌, Bool, List, [], ◌∷◌, ◌++◌, map, Contains, length, slice_set, slice_index_or, ℤ, pos, ◌+ℤ◌, ◌-ℤ◌, ◌*ℤ◌}
+use Rattle.std.specs.Prelude.{◌≡◌, ℕ, zero, suc, ◌-◌, ◌^◌, ◌<◌, Bool, List, [], ◌∷◌, ◌++◌, map, Contains, length, slice_set, slice_index_or, ℤ, pos, ◌+ℤ◌, ◌-ℤ◌, ◌*ℤ◌}
 use Rattle.tb_math.specs.Rational.{int}
 use Rattle.tb_places.specs.declared.AxisName.{AxisName}
 use Rattle.tb_places.specs.declared.AxisName.TheVariants.{X, Y, Z}
@@ -47,6 +47,12 @@ round_edge Y e X i j k = only_at e.i e.j e.k i j k -ℤ only_at e.i e.j (e.k - 1
 round_edge Z e X i j k = only_at e.i (e.j - 1) e.k i j k -ℤ only_at e.i e.j e.k i j k
 round_edge Z e Y i j k = only_at e.i e.j e.k i j k -ℤ only_at (e.i - 1) e.j e.k i j k
 round_edge _ e _ i j k = pos 0
+
+-- an edge that has a cell on each of its four sides
+abbrev pub IsInnerEdge : Counts → AxisName → Place → Type 0
+IsInnerEdge n X e = (e.i < n X) × (0 < e.j) × (e.j < n Y) × (0 < e.k) × (e.k < n Z)
+IsInnerEdge n Y e = (0 < e.i) × (e.i < n X) × (e.j < n Y) × (0 < e.k) × (e.k < n Z)
+IsInnerEdge n Z e = (0 < e.i) × (e.i < n X) × (0 < e.j) × (e.j < n Y) × (e.k < n Z)
 
 abbrev pub unless_idle : FaceKind → ℤ → ℤ
 unless_idle Idle x = pos 0
@@ -130,9 +136,13 @@ inner_edges n X = places (intervals (n X)) (inner_lines (n Y)) (inner_lines (n Z
 inner_edges n Y = places (inner_lines (n X)) (intervals (n Y)) (inner_lines (n Z))
 inner_edges n Z = places (inner_lines (n X)) (inner_lines (n Y)) (intervals (n Z))
 
--- all nodes, then all edges inside the hull, those along x first, along z last
+-- all edges inside the hull, those along x first, along z last
+abbrev pub loop_moves : Counts → List Move
+loop_moves n = map (Loop X) (inner_edges n X) ++ (map (Loop Y) (inner_edges n Y) ++ map (Loop Z) (inner_edges n Z))
+
+-- all nodes, then all edges inside the hull
 abbrev pub pass_moves : Counts → List Move
-pass_moves n = map Node (nodes n) ++ map (Loop X) (inner_edges n X) ++ map (Loop Y) (inner_edges n Y) ++ map (Loop Z) (inner_edges n Z)
+pass_moves n = map Node (nodes n) ++ loop_moves n
 
 abbrev pub IsPass : Mesh → Case → State → State → Bool → Type 0
 IsPass m inside old new told = AreMoves m inside (pass_moves m.cells) old new told

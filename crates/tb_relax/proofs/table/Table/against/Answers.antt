@@ -1,7 +1,7 @@
 use Rattle.std.proofs.Common.{arith, ap, sym, ◌∙◌, subst, Bool, ◌≤◌, ◌^◌, unsigned_abs}
 use Rattle.std.proofs.lemmas.Int.{ints}
 use lib.IntN.{ℤ, neg_ℤ}
-use Rattle.tb_relax.specs.Parts.{counted}
+use Rattle.tb_weighted.specs.FlowMoves.{counted}
 use Rattle.tb_relax.specs.Tables.{rate_through, slope_through}
 use Rattle.tb_relax.proofs.table.Table.against.Goals as goal
 
