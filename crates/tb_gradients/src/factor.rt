@@ -59,15 +59,30 @@ fn eliminate(couplings: Couplings, at: usize, taken: &mut [i64]) -> Pivot
     let row = layout.row();
     let layer = layout.layer();
     let ring = layer + 1;
-    let pivot = sums[at].value().saturating_sub(taken[at % ring]).max(LEAST_PIVOT);
+    let pivot = sums[at]
+        .value()
+        .saturating_sub(taken[at % ring])
+        .max(LEAST_PIVOT);
     taken[at % ring] = 0;
     if sums[at].value() == 0 {
         return Pivot::ZERO;
     }
     let after = x[at + 1].value() + y[at + row].value() + z[at + layer].value();
-    take(taken, (at + 1) % ring, taken_by(x[at + 1], after, pivot, share));
-    take(taken, (at + row) % ring, taken_by(y[at + row], after, pivot, share));
-    take(taken, (at + layer) % ring, taken_by(z[at + layer], after, pivot, share));
+    take(
+        taken,
+        (at + 1) % ring,
+        taken_by(x[at + 1], after, pivot, share),
+    );
+    take(
+        taken,
+        (at + row) % ring,
+        taken_by(y[at + row], after, pivot, share),
+    );
+    take(
+        taken,
+        (at + layer) % ring,
+        taken_by(z[at + layer], after, pivot, share),
+    );
     Pivot::new(pivot)
 }
 

@@ -59,7 +59,11 @@ fn sum_at(
 {
     let before = x[at].value() + y[at].value() + z[at].value();
     let after = x[at + 1].value() + y[at + layout.row()].value() + z[at + layout.layer()].value();
-    Coupling::new(before.checked_add(after)?.checked_add(surroundings.value())?)
+    Coupling::new(
+        before
+            .checked_add(after)?
+            .checked_add(surroundings.value())?,
+    )
 }
 
 // Adds a point's couplings with its neighbours to those with its surroundings. None where a sum doesn't fit.

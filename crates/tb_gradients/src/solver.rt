@@ -211,14 +211,22 @@ impl Solver {
         if self.residual.magnitude == 0 {
             return Some(i32::MIN);
         }
+        self.residual.settle()?;
         precondition(
             preconditioner.stencil(),
             &self.residual,
             &mut self.correction,
         )?;
         let size = self.residual.dot(&self.correction);
+        if size.value <= 0 {
+            return if size.value == 0 {
+                Some(i32::MIN)
+            } else {
+                None
+            };
+        }
         let bits = size.logarithm();
-        if size.value > 0 && bits > least {
+        if bits > least {
             self.turn()?;
             self.advance(operator)?;
         }

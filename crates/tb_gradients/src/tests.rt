@@ -43,8 +43,80 @@ fn the_temperature_of_a_plane_wall_is_linear(rt: HostRuntime) -> Result<(), Fail
     assert_eq!(rt; outcome.end, End::Converged);
     for cell in 0..8usize {
         let want = ONE / 16 * (15 - 2 * cell as i64);
-        let found = solver.solution().get(layout.first() + cell).map_or(0, |x| x.value());
-        assert!(rt; (found - want).abs() < 1 << 25, "{cell}: {found} for {want}");
+        let found = solver
+            .solution()
+            .get(layout.first() + cell)
+            .map_or(0, |x| x.value());
+        assert!(rt;
+            (found - want).abs() < 1 << 25,
+            "{cell}: {found} for {want}"
+        );
     }
+    Ok(())
+}
+
+// A block of 6 · 5 · 4 points, of two kinds in turns of two, and surroundings beside its first and its last layer.
+fn couple_block(block: &mut Matrix) -> Option<()> {
+    let layout = block.layout;
+    let first = layout.first();
+    for at in first..layout.last() {
+        let (i, j, k) = ((at - first) % 6, (at - first) / 6 % 5, (at - first) / 30);
+        let strength = coupling(if (i / 2 + j / 2 + k / 2) % 2 == 0 {
+            ONE
+        } else {
+            ONE >> 10
+        });
+        if i > 0 {
+            block.couple(at, Neighbour::BeforeOnX, strength)?;
+        }
+        if j > 0 {
+            block.couple(at, Neighbour::BeforeOnY, strength)?;
+        }
+        if k > 0 {
+            block.couple(at, Neighbour::BeforeOnZ, strength)?;
+        }
+        if k == 0 || k == 3 {
+            block.couple(at, Neighbour::Surroundings, coupling(ONE >> 3))?;
+        }
+    }
+    block.finish(998)
+}
+
+// The greatest entry of what the solution leaves of a right-hand side of `value` at each point of the first layer.
+fn greatest_rest(matrix: &Matrix, solution: &[Entry], image: &mut [Entry], value: i64) -> i64 {
+    let layout = matrix.layout;
+    if matrix.multiply(solution, 50, image).is_none() {
+        return i64::MAX;
+    }
+    let mut greatest = 0i64;
+    for at in layout.first()..layout.last() {
+        let wanted = if at - layout.first() < 30 { value } else { 0 };
+        let found = image.get(at).map_or(0, |x| x.value());
+        greatest = greatest.max((wanted - found).abs());
+    }
+    greatest
+}
+
+#[test]
+fn the_residual_of_a_block_of_two_materials_is_small(rt: HostRuntime) -> Result<(), Fail> {
+    let layout = Layout::new(6, 5, 4);
+    assert!(rt; layout.is_some());
+    let Some(layout) = layout else {
+        return Ok(());
+    };
+    let mut block = Matrix::new(rt.alloc(), layout)?;
+    let mut solver = Solver::new(rt.alloc(), layout)?;
+    let mut image = vec![in rt.alloc(); Entry::ZERO; layout.places()]?;
+    let coupled = couple_block(&mut block);
+    assert_eq!(rt; coupled, Some(()));
+    solver.clear_residual(0);
+    for at in layout.first()..layout.first() + 30 {
+        solver.set_residual(at, entry(ONE >> 3));
+    }
+    let outcome = solver.solve(&block, &block, 60, 20);
+    assert_eq!(rt; outcome.end, End::Converged);
+    assert!(rt; outcome.steps < 30, "{}", outcome.steps);
+    let rest = greatest_rest(&block, solver.solution(), image.as_mut_slice(), ONE >> 3);
+    assert!(rt; rest < 1 << 30, "{rest}");
     Ok(())
 }

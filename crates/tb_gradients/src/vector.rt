@@ -129,6 +129,21 @@ impl Vector {
         Some(())
     }
 
+    /// Doubles the entries until the greatest has 50 bits, if it has fewer than 34 and isn't 0.
+    pub fn settle(&mut self) -> Option<()>
+        ensures { vec_len self.new.entries ≡ vec_len self.old.entries }
+    {
+        let bits = self.bits();
+        if bits >= 34 || bits == 0 {
+            return Some(());
+        }
+        let doublings = 50i32.saturating_sub(bits);
+        let multiplier = Multiplier::power_of_two(doublings)?;
+        self.magnitude = multiply_by(self.entries.as_mut_slice(), multiplier)?;
+        self.exponent = self.exponent.saturating_sub(doublings);
+        Some(())
+    }
+
     /// Becomes another vector, less a multiple of what it was. None where an entry doesn't fit. The other is halved where
     /// the sum needs a greater exponent.
     pub fn renew(&mut self, ratio: Dyadic, other: &mut Vector) -> Option<()>
