@@ -147,11 +147,11 @@ impl Solver {
         self.residual.clear(exponent);
     }
 
-    /// Sets the residual at a place. Nothing changes where there is no such place.
-    pub fn set_residual(&mut self, at: usize, entry: Entry)
+    /// Adds to the residual at a place. None, and nothing changes, where there is no such place or the sum doesn't fit.
+    pub fn add_residual(&mut self, at: usize, entry: Entry) -> Option<()>
         ensures { self.new.layout ≡ self.old.layout }
     {
-        self.residual.set(at, entry);
+        self.residual.add(at, entry)
     }
 
     /// The solution, each entry times `2^-50` after [`solve`](Solver::solve).

@@ -38,7 +38,8 @@ fn the_temperature_of_a_plane_wall_is_linear(rt: HostRuntime) -> Result<(), Fail
     let coupled = couple_wall(&mut wall);
     assert_eq!(rt; coupled, Some(()));
     solver.clear_residual(0);
-    solver.set_residual(layout.first(), entry(2 * ONE));
+    let added = solver.add_residual(layout.first(), entry(2 * ONE));
+    assert_eq!(rt; added, Some(()));
     let outcome = solver.solve(&wall, &wall, 20, 30);
     assert_eq!(rt; outcome.end, End::Converged);
     for cell in 0..8usize {
@@ -48,7 +49,7 @@ fn the_temperature_of_a_plane_wall_is_linear(rt: HostRuntime) -> Result<(), Fail
             .get(layout.first() + cell)
             .map_or(0, |x| x.value());
         assert!(rt;
-            (found - want).abs() < 1 << 25,
+            found.abs_diff(want) < 1 << 25,
             "{cell}: {found} for {want}"
         );
     }
@@ -83,16 +84,16 @@ fn couple_block(block: &mut Matrix) -> Option<()> {
 }
 
 // The greatest entry of what the solution leaves of a right-hand side of `value` at each point of the first layer.
-fn greatest_rest(matrix: &Matrix, solution: &[Entry], image: &mut [Entry], value: i64) -> i64 {
+fn greatest_rest(matrix: &Matrix, solution: &[Entry], image: &mut [Entry], value: i64) -> u64 {
     let layout = matrix.layout;
     if matrix.multiply(solution, 50, image).is_none() {
-        return i64::MAX;
+        return u64::MAX;
     }
-    let mut greatest = 0i64;
+    let mut greatest = 0u64;
     for at in layout.first()..layout.last() {
         let wanted = if at - layout.first() < 30 { value } else { 0 };
         let found = image.get(at).map_or(0, |x| x.value());
-        greatest = greatest.max((wanted - found).abs());
+        greatest = greatest.max(found.abs_diff(wanted));
     }
     greatest
 }
@@ -111,7 +112,8 @@ fn the_residual_of_a_block_of_two_materials_is_small(rt: HostRuntime) -> Result<
     assert_eq!(rt; coupled, Some(()));
     solver.clear_residual(0);
     for at in layout.first()..layout.first() + 30 {
-        solver.set_residual(at, entry(ONE >> 3));
+        let added = solver.add_residual(at, entry(ONE >> 3));
+        assert_eq!(rt; added, Some(()));
     }
     let outcome = solver.solve(&block, &block, 60, 20);
     assert_eq!(rt; outcome.end, End::Converged);

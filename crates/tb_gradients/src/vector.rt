@@ -52,15 +52,19 @@ impl Vector {
         }
     }
 
-    /// Sets the entry at a place. The exponent stays.
-    pub fn set(&mut self, at: usize, entry: Entry)
+    /// Adds to the entry at a place. The exponent stays. None, and nothing changes, where there is no such place or the sum
+    /// doesn't fit.
+    pub fn add(&mut self, at: usize, entry: Entry) -> Option<()>
         ensures { vec_len self.new.entries ≡ vec_len self.old.entries }
     {
         let entries = self.entries.as_mut_slice();
-        if at < entries.len() {
-            entries[at] = entry;
-            self.magnitude |= entry.magnitude();
+        if at >= entries.len() {
+            return None;
         }
+        let sum = Entry::new(i128::from(entries[at].value()) + i128::from(entry.value()))?;
+        entries[at] = sum;
+        self.magnitude |= sum.magnitude();
+        Some(())
     }
 
     /// Sets all entries to zero, and the exponent.
