@@ -1,0 +1,77 @@
+// The loops over the entries of vectors.
+ghost use Rattle.std.specs.Prelude.{◌≡◌, ◌^◌, ◌≤◌, ◌*◌, length};
+
+use crate::entry::Entry;
+use crate::multiplier::Multiplier;
+
+/// The scalar product.
+pub fn dot(a: &[Entry], b: &[Entry]) -> i128
+    requires same { length a.now ≡ length b.now }
+    requires few { length a.now ≤ 3 * 2 ^ 19 }
+{
+    let mut sum = 0;
+    for i in 0..a.len() {
+        sum += a[i].times(b[i]);
+    }
+    sum
+}
+
+/// Multiplies the entries, and gives the greatest magnitude. None where one doesn't fit.
+pub fn multiply_by(a: &mut [Entry], multiplier: Multiplier) -> Option<i64> {
+    let half = multiplier.half();
+    let mut magnitude = 0;
+    for i in 0..a.len() {
+        let entry = Entry::new(multiplier.times(a[i], half))?;
+        magnitude |= entry.magnitude();
+        a[i] = entry;
+    }
+    Some(magnitude)
+}
+
+/// Adds a multiple of `b` to `a`, and gives the greatest magnitude. None where an entry doesn't fit.
+pub fn add_multiple(a: &mut [Entry], multiplier: Multiplier, b: &[Entry]) -> Option<i64>
+    requires { length a.old ≡ length b.now }
+{
+    let half = multiplier.half();
+    let mut magnitude = 0;
+    for i in 0..a.len() {
+        let entry = Entry::new(i128::from(a[i].value()) + multiplier.times(b[i], half))?;
+        magnitude |= entry.magnitude();
+        a[i] = entry;
+    }
+    Some(magnitude)
+}
+
+/// Multiplies `a` and adds `b`, and gives the greatest magnitude. None where an entry doesn't fit.
+pub fn renew(a: &mut [Entry], multiplier: Multiplier, b: &[Entry]) -> Option<i64>
+    requires { length a.old ≡ length b.now }
+{
+    let half = multiplier.half();
+    let mut magnitude = 0;
+    for i in 0..a.len() {
+        let entry = Entry::new(i128::from(b[i].value()) + multiplier.times(a[i], half))?;
+        magnitude |= entry.magnitude();
+        a[i] = entry;
+    }
+    Some(magnitude)
+}
+
+/// Multiplies `a` by a whole number, takes a multiple of `b` away, and gives the greatest magnitude. None where an entry
+/// doesn't fit.
+pub fn reduce(
+    a: &mut [Entry],
+    whole: Multiplier,
+    multiplier: Multiplier,
+    b: &[Entry],
+) -> Option<i64>
+    requires { length a.old ≡ length b.now }
+{
+    let half = multiplier.half();
+    let mut magnitude = 0;
+    for i in 0..a.len() {
+        let entry = Entry::new(whole.whole(a[i]) - multiplier.times(b[i], half))?;
+        magnitude |= entry.magnitude();
+        a[i] = entry;
+    }
+    Some(magnitude)
+}
