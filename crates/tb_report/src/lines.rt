@@ -91,7 +91,7 @@ fn put_both<K: Sink>(buffer: &mut OutputBuffer, sink: &mut K, extremes: Extremes
 fn field_of(case: &CaseProof) -> &[i64]
     ensures { result.now ≡ case.now.field }
 {
-    &case.field.items
+    case.field.values()
 }
 
 /// Puts the least and the greatest temperature of a case's field at the surfaces towards an environment.
