@@ -34,15 +34,15 @@ sources f = source_is (mesh_under f.rows) (case_of f.case.mask) (flow_at f)
 less : (x y u v : ℤ) → x ≡ u → y ≡ v → x -ℤ y ≡ u -ℤ v
 less x y u v e g = ap (λ (z : ℤ). z -ℤ y) e ∙ ap (λ (z : ℤ). u -ℤ z) g
 
-lower_under : (f : BodyFlux) (entering : ℤ) (loss : ℕ) → entering ≡ layers_up (mesh_under f.rows) (entering_under f) (counts_of f.rows.grid.now Z) →
+lower_under : (f : BodyFlux) (entering : ℤ) (loss : ℕ) → entering ≡ rounded_up (mesh_under f.rows) (entering_under f) →
     pos loss ≡ rounded_up (mesh_under f.rows) (loss_under f) →
     pos (2 * 10 ^ 6) *ℤ entering -ℤ pos loss ≡ lower_end (mesh_under f.rows) (case_of f.case.mask) (flux_on f.rows.grid.now f.flows.now)
 unfolding lower_end
 lower_under f entering loss e l =
-    less _ _ _ _ (ap (λ (z : ℤ). pos (2 * 10 ^ 6) *ℤ z) (e ∙ whole_is (mesh_under f.rows) (entering_under f)) ∙ sym (sources f)) l
+    less _ _ _ _ (ap (λ (z : ℤ). pos (2 * 10 ^ 6) *ℤ z) e ∙ sym (sources f)) l
 
 pub lower_is : (f : BodyFlux) (d : Detail) (g : Axes) (values : List ℤ) (entering : ℤ) (loss : ℕ) → f.rows.body.now ≡ d → f.rows.grid.now ≡ g → f.flows.now ≡ values →
-    entering ≡ layers_up (mesh_under f.rows) (entering_under f) (counts_of f.rows.grid.now Z) → pos loss ≡ rounded_up (mesh_under f.rows) (loss_under f) →
+    entering ≡ rounded_up (mesh_under f.rows) (entering_under f) → pos loss ≡ rounded_up (mesh_under f.rows) (loss_under f) →
     pos (2 * 10 ^ 6) *ℤ entering -ℤ pos loss ≡ lower_end (mesh_on d g) (case_of f.case.mask) (flux_on g values)
 lower_is f d g values entering loss ed eg ev e l =
     lower_under f entering loss e l

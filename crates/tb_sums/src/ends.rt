@@ -53,8 +53,8 @@ pub fn lower_end(body: &Body, grid: &Grid, flux: &Flux, case: Case) -> Result<i1
         flows: flux.values(),
         case,
     };
-    let loss = flux.loss()?;
-    Ok(source_less(flux.entering(), loss))
+    let sums = flux.sums()?;
+    Ok(source_less(sums.entering, sums.loss))
 }
 
 // The source, which is twice the flow that enters times the temperature 1, less a loss.

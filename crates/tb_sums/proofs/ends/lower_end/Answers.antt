@@ -9,22 +9,22 @@ pub returns-clause-value : goal.returns-clause-value
 returns-clause-value c =
     let f : BodyFlux = record { rows = c.new.result; flows = c.values.result; case = c.args.case } in
     let stored : to_z w128 (of_z w128 c.source_less.result) ≡ c.source_less.result = search rules in
-    let entering : to_z w128 (of_z w128 c.entering.result) ≡ c.entering.result = search rules in
-    stored ∙ c.source_less.ensures.value ∙ ap (λ (z : ℤ). pos 2000000 *ℤ z -ℤ pos c.in_ok-loss.loss) entering
-    ∙ lower_is f c.args.body.now c.args.grid.now c.args.flux.now c.entering.result c.in_ok-loss.loss c.new.ensures.body c.new.ensures.grid c.values.ensures
-    c.entering.ensures.value c.in_ok-loss.ensures.value
+    let entering : to_z w128 (of_z w128 c.in_ok-sums.sums.entering) ≡ c.in_ok-sums.sums.entering = search rules in
+    stored ∙ c.source_less.ensures.value ∙ ap (λ (z : ℤ). pos 2000000 *ℤ z -ℤ pos c.in_ok-sums.sums.loss) entering
+    ∙ lower_is f c.args.body.now c.args.grid.now c.args.flux.now c.in_ok-sums.sums.entering c.in_ok-sums.sums.loss c.new.ensures.body c.new.ensures.grid c.values.ensures
+    c.in_ok-sums.ensures.entering c.in_ok-sums.ensures.loss
 
 pub returns-clause-past_limit : goal.returns-clause-past_limit
 returns-clause-past_limit c =
     let f : BodyFlux = record { rows = c.new.result; flows = c.values.result; case = c.args.case } in (
       λ e. absurd (cc),
-      λ past. absurd (not_past c.in_ok-loss.loss _ c.in_ok-loss.ensures.within
-          (c.in_ok-loss.ensures.value ∙ loss_is f c.args.body.now c.args.grid.now c.args.flux.now c.new.ensures.body c.new.ensures.grid c.values.ensures) past),
+      λ past. absurd (not_past c.in_ok-sums.sums.loss _ c.in_ok-sums.ensures.within
+          (c.in_ok-sums.ensures.loss ∙ loss_is f c.args.body.now c.args.grid.now c.args.flux.now c.new.ensures.body c.new.ensures.grid c.values.ensures) past),
     )
 
-pub returns-in_err-loss-clause-past_limit : goal.returns-in_err-loss-clause-past_limit
-returns-in_err-loss-clause-past_limit c =
+pub returns-in_err-sums-clause-past_limit : goal.returns-in_err-sums-clause-past_limit
+returns-in_err-sums-clause-past_limit c =
     let f : BodyFlux = record { rows = c.new.result; flows = c.values.result; case = c.args.case } in (
-      λ e. subst (λ (z : ℤ). pos (2 ^ 120) <ℤ z) (loss_is f c.args.body.now c.args.grid.now c.args.flux.now c.new.ensures.body c.new.ensures.grid c.values.ensures) c.in_err-loss.ensures.past_limit,
+      λ e. subst (λ (z : ℤ). pos (2 ^ 120) <ℤ z) (loss_is f c.args.body.now c.args.grid.now c.args.flux.now c.new.ensures.body c.new.ensures.grid c.values.ensures) c.in_err-sums.ensures.past_limit,
       λ past. c.from_residual.ensures.0,
     )

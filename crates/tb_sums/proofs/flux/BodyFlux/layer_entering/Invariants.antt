@@ -1,9 +1,0 @@
-use Rattle.std.specs.Prelude.{unsigned_abs}
-use Rattle.std.proofs.Common.{◌≡◌, ◌*◌, ◌^◌, ◌≤◌}
-use Rattle.tb_rows.specs.Rows.{mesh_under}
-use Rattle.tb_rows.specs.Sums.{rows_up}
-use Rattle.tb_sums.specs.BodyFluxes.{entering_under}
-use Rattle.tb_sums.proofs.flux.BodyFlux.layer_entering.Given as goal
-
-abbrev pub invariant-loop-j : goal.invariant-loop-j
-invariant-loop-j l = record { value : l.total ≡ rows_up (mesh_under l.self.rows) (entering_under l.self) l.k l.j; size : unsigned_abs l.total ≤ l.j * (1023 * (6 * 10 ^ 12)) }
