@@ -10,6 +10,7 @@ pub mod LastBack
 pub mod Marks
 pub mod Meeting
 pub mod Plain
+pub mod ReadWithin
 pub mod RowsBack
 pub mod ValueTexts
 pub mod WholeBack

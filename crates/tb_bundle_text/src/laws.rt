@@ -64,3 +64,10 @@ pub fn written_bundles_read_back()
     ensures records { (bundle : Bundle) → BundleInLimits bundle → bundle_reading (bundle_rows bundle) ≡ Ok bundle }
     ensures whole { (bundle : Bundle) → BundleInLimits bundle → bundle_reading (records_of (bundle_text bundle)) ≡ Ok bundle }
 {}
+
+/// A bundle that was read from any text can be written, and its canonical text reads as the same bundle.
+pub fn read_bundles_are_written()
+    ensures limits { (bytes : List ℕ) (bundle : Bundle) → bundle_reading (records_of bytes) ≡ Ok bundle → BundleInLimits bundle }
+    ensures same { (bytes : List ℕ) (bundle : Bundle) → bundle_reading (records_of bytes) ≡ Ok bundle
+        → bundle_reading (records_of (bundle_text bundle)) ≡ Ok bundle }
+{}

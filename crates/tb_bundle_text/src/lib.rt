@@ -18,6 +18,6 @@ mod values;
 
 pub use bundle::{BundleText, put_bundle, write_bundle};
 pub use laws::{
-    written_axes_read_back, written_bundles_read_back, written_cases_read_back,
-    written_values_read_back,
+    read_bundles_are_written, written_axes_read_back, written_bundles_read_back,
+    written_cases_read_back, written_values_read_back,
 };
