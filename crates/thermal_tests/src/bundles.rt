@@ -46,7 +46,8 @@ fn checked(alloc: Global, bytes: Vec<u8>) -> Result<Vec<u8>, AllocError> {
 fn push_tenths(text: &mut Vec<u8>, tenths: u8) -> Result<(), AllocError> {
     text.push(b'0' + tenths / 10 % 10)?;
     text.push(b'.')?;
-    text.push(b'0' + tenths % 10)
+    text.push(b'0' + tenths % 10)?;
+    Ok(())
 }
 
 fn push_rows(text: &mut Vec<u8>, count: u8, row: &[u8]) -> Result<(), AllocError> {
