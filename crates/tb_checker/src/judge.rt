@@ -9,7 +9,6 @@ ghost use Rattle.tb_checker.specs.Contents.{IsJudgeable, IsJudgedRightly, IsNarr
 ghost use Rattle.tb_checker.specs.Faults.{OfCase, OfClaims, OfEnds};
 
 use crate::fault::CheckFault;
-
 use tb_bundle::{CaseProof, Verdict};
 use tb_geometry::Body;
 use tb_sums::{lower_end, upper_end};

@@ -29,30 +29,42 @@ check|0 accepted,inside,2702702702702700,2702702702702704;end;|10:\"x\",0,0000.1
 check|7 refused,IntervalDiffers,case 1 claimed 2702702702702701 2702702702702704 found 2702702702702700 2702702702702704;|22:interval,2702702702702701,2702702702702704\n\
 check|7 refused,Unbalanced,case 1 cell 1 sum 1;|18:fx,0,2702702702,2702702703,0\n\
 check|7 refused,Unbalanced,case 1 cell 1 sum -2000000000000;|18:fx,0,1000000000000,-1000000000000,0\n\
+check|0 accepted,inside,2702702702702699,2702702702702704;end;|10:x,0,0.1,100.1,200.1,200.2|13:t,0,64864865,37837838,10810811,0|14:t,0,64864865,37837838,10810811,0|15:t,0,64864865,37837838,10810811,0|16:t,0,64864865,37837838,10810811,0|17:fz,0,0,0,0|19:fy,0,0,0,0|20:fy,0,0,0,0|21:fz,0,0,0,0|22:interval,2702702702702699,2702702702702704|18:fx,0,2702702702,2702702702,2702702702,0\n\
+check|7 refused,Unbalanced,case 1 cell 1 sum 1;|10:x,0,0.1,100.1,200.1,200.2|13:t,0,64864865,37837838,10810811,0|14:t,0,64864865,37837838,10810811,0|15:t,0,64864865,37837838,10810811,0|16:t,0,64864865,37837838,10810811,0|17:fz,0,0,0,0|19:fy,0,0,0,0|20:fy,0,0,0,0|21:fz,0,0,0,0|22:interval,2702702702702699,2702702702702704|18:fx,0,2702702702,2702702703,2702702702,0\n\
+check|7 refused,OuterFlux,case 1 face 8;|19:fy,0,5,0|20:fy,0,5,0\n\
+check|7 refused,OuterFlux,case 1 face 8;|18:fx,0,2702702702,2702702703,0|19:fy,0,5,0|22:interval,0,0\n\
+check|7 refused,VerdictDiffers,case 1;|23:verdict,done,0\n\
+check|0 accepted,inside,2702702702702700,2702702702702704;end;|23:verdict,done,1\n\
+check|7 refused,VerdictDiffers,case 1;|23:verdict,grid,1\n\
+check|7 refused,VerdictDiffers,case 1;|23:verdict,sweeps,1000000000\n\
+check|7 refused,LineMissing,case 1 x 200.1;|10:x,0,0.1,200.2\n\
+check|7 refused,LineOutside,record 10 field 6;|10:x,0,0.1,200.1,200.2,200.3\n\
+check|7 refused,ValueOutOfRange,record 18 field 3;|18:fx,0,1000000000001,1000000000000,0\n\
 check|7 refused,NotFormat,record 1;|1:bundle,2\n\
-check|7 refused,NotFormat,record 1;|1:# a remark\n\
-check|7 refused,NotFormat,record 1;|2:detail,1,2\n\
-check|7 refused,NotFormat,record 1;|5:mat,wall,0\n\
-check|7 refused,NotFormat,record 1;|5:mat,wall,500.0001\n\
-check|7 refused,NotFormat,record 1;|5:mat,wall,1e3\n\
-check|7 refused,NotFormat,record 1;|6:solid,wall,0.2,200.1,0,1000,0,1000\n\
-check|7 refused,NotFormat,record 1;|6:solid,wall,0.1,200.1,00,1000,0,1000\n\
-check|7 refused,NotFormat,record 1;|6:solid,wall,0.1,200.1,0,1000,0,1000,0\n\
-check|7 refused,NotFormat,record 1;|7:air,inside,0,0,0.1,0,1000,0,1000\n\
-check|7 refused,NotFormat,record 1;|8:air,outside,0.04,200.1,200.1,0,1000,0,1000\n\
-check|7 refused,NotFormat,record 1;|10:x,0,0.1,200.1,200.11\n\
-check|7 refused,NotFormat,record 1;|10:x,0,0.1,200.1,50000.1\n\
-check|7 refused,NotFormat,record 1;|11:y,0,0\n\
-check|7 refused,NotFormat,record 1;|13:t,0,64864865,10810811,100000001\n\
-check|7 refused,NotFormat,record 1;|13:t,0,64864865,10810811,-1\n\
-check|7 refused,NotFormat,record 1;|18:fx,0,1000000000001,1000000000001,0\n\
-check|7 refused,NotFormat,record 1;|18:fx,-0,2702702702,2702702702,0\n\
-check|7 refused,NotFormat,record 1;|19:fy,0,0,1\n\
-check|7 refused,NotFormat,record 1;|22:interval,2702702702702700,100000000000000000000000000000000000000\n\
-check|7 refused,NotFormat,record 1;|22:interval,,2702702702702704\n\
-check|7 refused,NotFormat,record 1;|23:verdict,grid,1\n\
-check|7 refused,NotFormat,record 1;|23:verdict,done,0\n\
-check|7 refused,NotFormat,record 1;|24:end;end\n\
+check|7 refused,NotFormat,record 2;|1:# a remark\n\
+check|0 accepted,inside,2702702702702700,2702702702702704;end;|1:# a remark;bundle,1\n\
+check|7 refused,FieldCount,record 6;|2:detail,1,2\n\
+check|7 refused,OutOfRange,record 5 field 3;|5:mat,wall,0\n\
+check|7 refused,BadNumber,record 5 field 3;|5:mat,wall,1e3\n\
+check|7 refused,Uncovered,0.1 0 0;|6:solid,wall,0.2,200.1,0,1000,0,1000\n\
+check|7 refused,Overlap,boxes 1 2;|7:air,inside,0.13,0,0.2,0,1000,0,1000\n\
+check|7 refused,TooFewEnvironments;|4:|8:\n\
+check|0 accepted,inside,2702702702702700,2702702702702704;end;|6:solid,wall,0.1,200.1,00,1000,0,1000\n\
+check|7 refused,Reversed,record 8 field 5;|8:air,outside,0.04,200.1,200.1,0,1000,0,1000\n\
+check|7 refused,Shape,record 9;|9:case,outside\n\
+check|7 refused,BadNumber,record 10 field 5;|10:x,0,0.1,200.1,200.11\n\
+check|7 refused,ValueOutOfRange,record 10 field 5;|10:x,0,0.1,200.1,50000.1\n\
+check|7 refused,NotRising,record 11 field 3;|11:y,0,0\n\
+check|7 refused,ValueOutOfRange,record 13 field 5;|13:t,0,64864865,10810811,100000001\n\
+check|7 refused,BadNumber,record 13 field 5;|13:t,0,64864865,10810811,-1\n\
+check|0 accepted,inside,2702702702702700,2702702702702704;end;|18:fx,-0,2702702702,2702702702,0|19:fy,0,0,1\n\
+check|7 refused,BadNumber,record 22 field 3;|22:interval,2702702702702700,100000000000000000000000000000000000000\n\
+check|7 refused,BadNumber,record 22 field 2;|22:interval,,2702702702702704\n\
+check|7 refused,Shape,record 23;|23:verdict,ready,0\n\
+check|7 refused,ValueOutOfRange,record 23 field 3;|23:verdict,grid,1000000001\n\
+check|7 refused,Shape,record 24;|24:END\n\
+check|7 refused,Shape,record 25;|24:end;end\n\
+check|0 accepted,inside,2702702702702700,2702702702702704;end;|24:end;# a remark\n\
 uvalue|0 end;\n\
 uvalue|0 end;|4:mat,wall,500\n\
 uvalue|1 refused,BadNumber,record 4 field 3;|4:mat,wall,0.00001\n\
@@ -151,25 +163,22 @@ fn commands_answer(rt: HostRuntime) -> Result<(), Fail> {
     Ok(())
 }
 
+// Whether `check` tells this of so many bytes of the bundle.
+fn is_told_of_front(alloc: Global, length: usize, text: &[u8]) -> Result<bool, AllocError> {
+    let front = Vec::from_slice(alloc, BUNDLE.as_bytes().get(..length).unwrap_or(b""))?;
+    Ok(told(alloc, "check", front, 1000)?.as_slice() == text)
+}
+
 #[test]
 fn a_bundle_that_is_cut_is_none(rt: HostRuntime) -> Result<(), Fail> {
-    let whole = BUNDLE.as_bytes();
-    for length in [
-        0,
-        1,
-        8,
-        9,
-        100,
-        whole.len().saturating_sub(5),
-        whole.len().saturating_sub(2),
-    ] {
-        let front = Vec::from_slice(rt.alloc(), whole.get(..length).unwrap_or(b""))?;
-        let found = told(rt.alloc(), "check", front, 1000)?;
-        assert!(rt;
-            found.as_slice() == b"7 refused,NotFormat,record 1\n".as_slice(),
-            "{length} bytes"
-        );
-    }
+    let alloc = rt.alloc();
+    assert!(rt; is_told_of_front(alloc, 0, b"7 refused,NotFormat,record 1\n")?);
+    assert!(rt; is_told_of_front(alloc, 8, b"7 refused,NotFormat,record 2\n")?);
+    assert!(rt; is_told_of_front(alloc, 100, b"7 refused,FieldCount,record 7\n")?);
+    assert!(rt; is_told_of_front(alloc, 168, b"7 refused,NoEnd\n")?);
+    assert!(rt; is_told_of_front(alloc, 330, b"7 refused,Shape,record 18\n")?);
+    assert!(rt; is_told_of_front(alloc, 422, b"7 refused,NoEnd\n")?);
+    assert!(rt; is_told_of_front(alloc, 439, b"7 refused,Shape,record 24\n")?);
     Ok(())
 }
 
