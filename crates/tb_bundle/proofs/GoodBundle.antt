@@ -1,19 +1,17 @@
 -- A bundle whose records have no fault is within limits.
-use Rattle.std.proofs.Common.{◌≡◌, refl, ◌≤◌, ◌++◌, List, [], ◌∷◌, Bool, true, false, length, nat_lt, Option, Some, None, if◌then◌else◌}
+use Rattle.std.proofs.Common.{◌≡◌, refl, ◌≤◌, ◌++◌, List, [], ◌∷◌, Bool, true, false, length, nat_lt, None, if◌then◌else◌}
 use Rattle.std.proofs.lemmas.Bool.{ltb-false}
 use Rattle.tb_detail.specs.declared.Detail.{Detail}
 use Rattle.tb_detail.specs.Limits.{InLimits}
 use Rattle.tb_reading.specs.Reading.{Numbered}
 use Rattle.tb_case_records.specs.declared.case.CaseProof.{CaseProof}
-use Rattle.tb_case_records.specs.declared.fault.BundleFault.{BundleFault}
 use Rattle.tb_case_records.specs.declared.fault.BundleFault.TheVariants as bundle
-use Rattle.tb_case_records.specs.Cases.{CaseForm, case_of, case_table}
-use Rattle.tb_case_records.specs.Table.{Expected, Never, first_fault}
+use Rattle.tb_case_records.specs.Cases.{CaseForm, case_table}
+use Rattle.tb_case_records.specs.Table.{Never, first_fault}
 use Rattle.tb_case_records.proofs.GoodCase.{good_case}
 use Rattle.tb_case_records.proofs.GoodRows.{good_both}
 use Rattle.tb_case_records.proofs.Rising.{impossible, none_both}
-use Rattle.tb_bundle.specs.declared.bundle.Bundle.{Bundle}
-use Rattle.tb_bundle.specs.Bodies.{IsBody, behind_case, body_fault, body_table, case_forms, cases_of, cases_table, end_table, extra_fault}
+use Rattle.tb_bundle.specs.Bodies.{IsBody, behind_case, body_table, case_forms, cases_of, cases_table, end_table}
 use Rattle.tb_bundle.specs.Limits.{BundleInLimits, CasesInLimits}
 
 cases_good : (fs : List CaseForm) (given : List Numbered) → first_fault (cases_table fs given) given ≡ None → CasesInLimits fs (cases_of fs given)

@@ -1,5 +1,4 @@
 pub mod AllCases
 pub mod DetailPart
 pub mod GoodBundle
-pub mod Judging
 pub mod Wholes

@@ -1,5 +1,5 @@
 -- The records behind the detail of a bundle: its cases in order, and the end.
-use Rattle.std.specs.Prelude.{◌≡◌, ℕ, ◌+◌, ◌/◌, ◌%◌, ◌==◌, List, [], ◌∷◌, ◌++◌, length, drop, codes, nat_lt, Option, Some, None, option_map, if◌then◌else◌}
+use Rattle.std.specs.Prelude.{◌≡◌, ℕ, ◌+◌, ◌/◌, ◌%◌, ◌==◌, List, [], ◌∷◌, ◌++◌, length, drop, codes, nat_lt, Option, Some, None, if◌then◌else◌}
 use Rattle.std.specs.Option.{option_or}
 use Rattle.tb_places.specs.declared.AxisName.TheVariants.{X, Y, Z}
 use Rattle.tb_detail.specs.declared.Detail.{Detail}
@@ -60,13 +60,6 @@ cases_table (f ∷ fs) given = case_table f given ++ cases_table fs (behind_case
 abbrev pub cases_of : List CaseForm → List Numbered → List CaseProof
 cases_of [] given = []
 cases_of (f ∷ fs) given = case_of f given ∷ cases_of fs (behind_case f given)
-
--- the first fault of cases, where each is also judged by what its records say once they have no fault
-abbrev pub judged_fault : {F : Type 0} → (BundleFault → F) → (CaseForm → CaseProof → Option F) → List CaseForm → List Numbered → Option F
-judged_fault told judge [] given = None
-judged_fault told judge (f ∷ fs) given =
-    option_or (option_map told (first_fault (case_table f given) given))
-    (option_or (judge f (case_of f given)) (judged_fault told judge fs (behind_case f given)))
 
 -- cases are read as their records say
 pub record AreCases (fs : List CaseForm) (old new : Ahead) (cs : List CaseProof) : Type 0 where

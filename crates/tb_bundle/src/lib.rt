@@ -19,10 +19,8 @@
 mod body;
 mod bundle;
 mod detail;
-mod laws;
 
 pub use body::{Body, masks_of, read_body, read_cases, read_one, take_end};
 pub use bundle::{Bundle, read_bundle, take_head};
 pub use detail::read_detail_part;
-pub use laws::unjudged_cases;
 pub use tb_case_records::{BundleFault, BundleRefusal, CaseProof, RecordPlace, Verdict};

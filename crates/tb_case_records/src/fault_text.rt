@@ -20,7 +20,12 @@ fn put_record_fault<K: Sink>(buffer: &mut OutputBuffer, sink: &mut K, name: &[u8
 }
 
 // A fault of a field.
-fn put_field_fault<K: Sink>(buffer: &mut OutputBuffer, sink: &mut K, name: &[u8], place: RecordPlace)
+fn put_field_fault<K: Sink>(
+    buffer: &mut OutputBuffer,
+    sink: &mut K,
+    name: &[u8],
+    place: RecordPlace,
+)
     ensures { Gathers K.holds K.faults sink.old sink.new buffer.old (field_line name.now place) buffer.new }
 {
     let mut digits = Buffer::new();

@@ -6,7 +6,6 @@ use Rattle.std.proofs.lemmas.List.Elements.{Contains-get_or}
 use Rattle.tb_places.specs.declared.AxisName.{AxisName}
 use Rattle.tb_places.specs.declared.AxisName.TheVariants.{X, Y, Z}
 use Rattle.tb_detail.specs.declared.Detail.{Detail}
-use Rattle.tb_detail.specs.declared.SpaceBox.{SpaceBox}
 use Rattle.tb_detail.specs.Limits.{InLimits}
 use Rattle.tb_grid.specs.Grid.{Axes, IsGrid, lines_of}
 use Rattle.tb_model.specs.Refinement.{high, low}

@@ -1,5 +1,5 @@
 -- Cases one behind the other, each judged before the next.
-use Rattle.std.proofs.Common.{◌≡◌, ◌∙◌, ap, refl, sym, subst, ℕ, ◌+◌, ◌<◌, ◌≤◌, List, [], ◌∷◌, ◌++◌, length, drop, Option, Some, None, inl, inr, append-nil}
+use Rattle.std.proofs.Common.{◌≡◌, ◌∙◌, ap, refl, sym, subst, ℕ, ◌+◌, ◌≤◌, List, [], ◌∷◌, length, drop, Option, Some, None}
 use Rattle.std.proofs.lemmas.List.{drop_all}
 use Rattle.tb_detail.specs.declared.Detail.{Detail}
 use Rattle.tb_reading.specs.Reading.{Numbered}

@@ -1,5 +1,5 @@
 -- A bundle without a fault is certified, case by case.
-use Rattle.std.proofs.Common.{◌≡◌, ap, refl, sym, subst, ℕ, ◌+◌, List, [], ◌∷◌, Option, Some, None, option_map, All}
+use Rattle.std.proofs.Common.{◌≡◌, refl, sym, subst, ℕ, ◌+◌, List, [], ◌∷◌, Option, Some, None, All}
 use Rattle.std.proofs.lemmas.List.Elements.{All-cons, All-nil}
 use Rattle.tb_detail.specs.declared.Detail.{Detail}
 use Rattle.tb_detail.specs.Limits.{InLimits}
@@ -14,11 +14,10 @@ use Rattle.tb_case_records.specs.declared.fault.BundleFault.{BundleFault}
 use Rattle.tb_case_records.specs.Cases.{CaseForm, case_of, case_table}
 use Rattle.tb_case_records.specs.Table.{first_fault}
 use Rattle.tb_case_records.proofs.GoodCase.{good_case}
-use Rattle.tb_bundle.specs.declared.bundle.Bundle.{Bundle}
 use Rattle.tb_bundle.specs.Bodies.{behind_case, case_form, case_forms_from, cases_of}
 use Rattle.tb_bundle.proofs.GoodBundle.{within}
 use Rattle.tb_duality.proofs.BodyEnds.{ends_sound}
-use Rattle.tb_checker.specs.Contents.{AreCertified, IsCertifiedCase, IsJudgeable, ends_of, field_in, flux_in, inside_of, mesh_of}
+use Rattle.tb_checker.specs.Contents.{AreCertified, IsCertifiedCase, IsJudgeable, field_in, flux_in, inside_of, mesh_of}
 use Rattle.tb_checker.specs.Faults.{IsFaultlessDetail, OfCase, OfCases, Records}
 use Rattle.tb_checker.proofs.Carried.{judgeable}
 use Rattle.tb_checker.proofs.Whole.{are_body}

@@ -1,5 +1,5 @@
 -- The first fault of what a case says.
-use Rattle.std.proofs.Common.{◌≡◌, refl, ℕ, ℤ, Option, Some, None, inl, inr}
+use Rattle.std.proofs.Common.{refl, ℕ, ℤ, Option, Some, None, inl, inr}
 use Rattle.tb_detail.specs.declared.Detail.{Detail}
 use Rattle.tb_grid.specs.declared.ids.CellId.{CellId}
 use Rattle.tb_grid.specs.declared.ids.FaceId.{FaceId}

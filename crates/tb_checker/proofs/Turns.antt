@@ -1,5 +1,5 @@
 -- Conditions in turn.
-use Rattle.std.proofs.Common.{◌≡◌, Option, Some, None, inl, inr}
+use Rattle.std.proofs.Common.{Option, Some, None, inl, inr}
 use Rattle.tb_checker.specs.declared.fault.CheckFault.{CheckFault}
 use Rattle.tb_checker.specs.declared.fault.CheckRefusal.{CheckRefusal}
 use Rattle.tb_checker.specs.declared.fault.CheckRefusal.TheVariants as refusal

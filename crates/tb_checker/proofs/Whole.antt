@@ -1,29 +1,26 @@
 -- A whole bundle, from its parts.
-use Rattle.std.proofs.Common.{◌≡◌, ◌∙◌, ap, refl, sym, subst, ℕ, ◌+◌, ◌≤◌, ◌++◌, ◌∷◌, Bool, true, false, List, [], length, drop, nat_lt, arith, Option, Some, None, option_map, Result, Ok, Err, if◌then◌else◌}
+use Rattle.std.proofs.Common.{◌≡◌, ◌∙◌, ap, refl, sym, subst, ℕ, ◌≤◌, ◌++◌, Bool, true, false, List, length, drop, nat_lt, arith, Option, Some, None, Result, Ok, Err}
 use Rattle.std.proofs.lemmas.Bool.{ltb-true}
 use Rattle.std.proofs.lemmas.List.{drop-drop, length-append}
 use Rattle.std.specs.Option.{option_or}
 use Rattle.tb_detail.specs.declared.Detail.{Detail}
-use Rattle.tb_detail.specs.Limits.{InLimits}
-use Rattle.tb_geometry.specs.Faults.{HasFault, IsAccepted}
+use Rattle.tb_geometry.specs.Faults.{IsAccepted}
 use Rattle.tb_reading.specs.Reading.{Numbered}
 use Rattle.tb_reading.specs.Records.{Row}
 use Rattle.tb_reading.specs.declared.fault.DetailFault.{DetailFault}
 use Rattle.tb_case_records.specs.declared.case.CaseProof.{CaseProof}
 use Rattle.tb_case_records.specs.declared.fault.BundleFault.{BundleFault}
-use Rattle.tb_case_records.specs.declared.fault.BundleFault.TheVariants as bundle
 use Rattle.tb_case_records.specs.Ahead.{Ahead, IsOnePast, all_ahead}
-use Rattle.tb_case_records.specs.Table.{Expected, Never, first_fault}
+use Rattle.tb_case_records.specs.Table.{Expected, first_fault}
 use Rattle.tb_case_records.proofs.Taking.{first_of_both}
-use Rattle.tb_bundle.specs.Bodies.{IsBody, body_fault, case_forms, cases_of, cases_table, end_fault, end_table, extra_fault}
+use Rattle.tb_bundle.specs.Bodies.{IsBody, body_fault, case_forms, cases_table, end_fault, end_table, extra_fault}
 use Rattle.tb_bundle.specs.Bundles.{behind_head, bundle_reading, head_fault, reading_ahead}
 use Rattle.tb_bundle.specs.declared.bundle.Bundle.{Bundle}
 use Rattle.tb_bundle.specs.Details.{IsDetail, body_part, detail_ahead, detail_fault}
 use Rattle.tb_bundle.proofs.Wholes.{whole}
-use Rattle.tb_checker.specs.declared.fault.CheckFault.TheVariants as check
 use Rattle.tb_checker.specs.declared.fault.CheckRefusal.{CheckRefusal}
 use Rattle.tb_checker.specs.declared.fault.CheckRefusal.TheVariants as refusal
-use Rattle.tb_checker.specs.Faults.{Answers, AnswersAhead, Finds, FirstFault, IsFaultlessBody, IsFaultlessDetail, OfBody, OfBundle, OfDetail, OrAt, Records, behind_cases}
+use Rattle.tb_checker.specs.Faults.{Answers, AnswersAhead, Finds, FirstFault, IsFaultlessBody, IsFaultlessDetail, OfBody, OfBundle, OfDetail, Records, behind_cases}
 use Rattle.tb_checker.proofs.Cases.{no_fault}
 use Rattle.tb_checker.proofs.Turns.{by_first, by_second}
 

@@ -1,5 +1,5 @@
 -- What is asked of a case of a bundle, once its records have no fault: of its flux, its interval and its verdict.
-use Rattle.std.specs.Prelude.{◌≡◌, ◌↔◌, ℕ, ◌*◌, ◌^◌, ◌≤◌, ℤ, pos, ◌-ℤ◌, ◌≤ℤ◌, All}
+use Rattle.std.specs.Prelude.{◌≡◌, ◌↔◌, ◌*◌, ◌^◌, ◌≤◌, ℤ, pos, ◌-ℤ◌, ◌≤ℤ◌, All}
 use Rattle.tb_detail.specs.declared.Detail.{Detail}
 use Rattle.tb_model.specs.Energy as model
 use Rattle.tb_model.specs.Energy.{IsBalanced, flux_terms, lower_end, rounded_up, upper_end}

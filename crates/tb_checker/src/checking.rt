@@ -14,8 +14,8 @@ use crate::fault::{CheckFault, CheckRefusal};
 use crate::judge::judge;
 use std::alloc::Global;
 use tb_bundle::{
-    Body as Lines, Bundle, BundleRefusal, CaseProof, masks_of, read_detail_part, read_one, take_end,
-    take_head,
+    Body as Lines, Bundle, BundleRefusal, CaseProof, masks_of, read_detail_part, read_one,
+    take_end, take_head,
 };
 use tb_case_records::RecordReader;
 use tb_detail::{Detail, Items};

@@ -56,12 +56,7 @@ fn put_name<K: Sink>(buffer: &mut OutputBuffer, sink: &mut K, detail: &Detail, s
 }
 
 /// Puts the names of a set of environments, with a plus between them.
-pub fn put_set_name<K: Sink>(
-    buffer: &mut OutputBuffer,
-    sink: &mut K,
-    detail: &Detail,
-    set: u8,
-)
+pub fn put_set_name<K: Sink>(buffer: &mut OutputBuffer, sink: &mut K, detail: &Detail, set: u8)
     requires few { length detail.now.environments ≤ 4 }
     ensures { Gathers K.holds K.faults sink.old sink.new buffer.old (set_name detail.now set) buffer.new }
 {

@@ -156,7 +156,9 @@ impl Text for CheckFault {
             CheckFault::Bundle(fault) => fault.put(buffer, sink),
             CheckFault::Body(fault) => fault.put(buffer, sink),
             CheckFault::OuterFlux(case, face) => put_outer(buffer, sink, case, face),
-            CheckFault::Unbalanced(case, cell, sum) => put_unbalanced(buffer, sink, case, cell, sum),
+            CheckFault::Unbalanced(case, cell, sum) => put_unbalanced(
+                buffer, sink, case, cell, sum,
+            ),
             CheckFault::SumPastLimit(case) => put_past_limit(buffer, sink, case),
             CheckFault::IntervalDiffers(case, claimed, found) => {
                 put_differs(buffer, sink, case, claimed, found)

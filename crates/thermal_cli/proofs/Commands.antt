@@ -1,12 +1,11 @@
 -- Words name at most one command.
-use Rattle.std.proofs.Common.{◌≡◌, ◌≢◌, ◌∙◌, refl, sym, ap, subst, ℕ, ◌≤◌, List, [], ◌∷◌, Bool, true, false, Option, Some, None, codes, inl, inr, arith, length, map}
+use Rattle.std.proofs.Common.{◌≡◌, ◌≢◌, ◌∙◌, refl, sym, ap, subst, ℕ, ◌≤◌, List, [], ◌∷◌, true, false, Option, Some, None, codes, inl, inr, arith, length, map}
 use Rattle.std.proofs.lemmas.Bool.{cases_Bool, eqb-true}
 use Rattle.std.proofs.lemmas.Slice.Eq.{bytes_eq-Decides}
 use Rattle.std.specs.Prelude.{◌==◌, MatchOption, unwrap_or}
 use Rattle.std.specs.Str.{bytes_eq}
 use Rattle.tb_options.proofs.Readings.{reading_is}
 use Rattle.tb_options.specs.Options.{IsReading, given, usual_halve}
-use Rattle.tb_options.specs.Steps.{options_after}
 use Rattle.tb_options.specs.declared.SolveOption.{SolveOption}
 use Rattle.tb_options.specs.declared.SolveOption.TheVariants.{Width, Grade, Halve, Sweeps}
 use Rattle.tb_options.specs.declared.SolveOptions.{SolveOptions}

@@ -11,11 +11,11 @@ solid,foam,0.1,49999.9,0,Y,0,0.1\n\
 air,inside,0.13,0,0.1,0,Y,0,0.1\nair,outside,0.04,49999.9,50000,0,Y,0,0.1\n\
 case,inside\nx,0,0.1,49999.9,50000\n";
 
-const STRIP_END: &str = "interval,-1299995241999999948000000000000000000,2000000002\nverdict,sweeps,0\nend\n";
+const STRIP_END: &str =
+    "interval,-1299995241999999948000000000000000000,2000000002\nverdict,sweeps,0\nend\n";
 
 // A wall of 1 m by 1 m by 200 mm; the third environment has no surface at it.
-const THREE: &[u8] =
-    b"bundle,1\ndetail,1,3\nenv,room\nenv,stair\nenv,outside\nmat,wall,1\n\
+const THREE: &[u8] = b"bundle,1\ndetail,1,3\nenv,room\nenv,stair\nenv,outside\nmat,wall,1\n\
 solid,wall,0.1,200.1,0,1000,0,1000\nair,room,0.13,0,0.1,0,1000,0,1000\n\
 air,outside,0.04,200.1,200.2,0,1000,0,1000\nair,stair,0.13,200.2,200.3,0,1000,0,1000\n\
 case,room\nx,0,0.1,200.1,200.2,200.3\ny,0,1000\nz,0,1000\n\

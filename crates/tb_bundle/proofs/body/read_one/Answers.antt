@@ -1,4 +1,4 @@
-use Rattle.std.proofs.Common.{◌≡◌, ◌∙◌, ap, subst, Bor, map}
+use Rattle.std.proofs.Common.{◌∙◌, ap, subst, Bor, map}
 use Rattle.tb_detail.specs.Names.{Text}
 use Rattle.tb_case_records.specs.Cases.{CaseForm, ReadsCase}
 use Rattle.tb_bundle.proofs.AllCases.{form_is}

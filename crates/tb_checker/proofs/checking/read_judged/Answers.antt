@@ -1,4 +1,4 @@
-use Rattle.std.proofs.Common.{◌≡◌, subst, sym}
+use Rattle.std.proofs.Common.{subst, sym}
 use Rattle.tb_detail.specs.declared.Detail.{Detail}
 use Rattle.tb_case_records.specs.Cases.{IsCase, case_of, case_table}
 use Rattle.tb_case_records.specs.Limits.{CaseInLimits}

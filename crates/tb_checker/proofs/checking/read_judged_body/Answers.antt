@@ -1,4 +1,4 @@
-use Rattle.std.proofs.Common.{◌≡◌, ◌∙◌, ap, subst, ℕ, List, length}
+use Rattle.std.proofs.Common.{◌∙◌, ap, subst, ℕ, List}
 use Rattle.tb_detail.specs.declared.Detail.{Detail}
 use Rattle.tb_geometry.specs.Cases.{case_masks}
 use Rattle.tb_reading.specs.Reading.{Numbered}

@@ -1,7 +1,6 @@
 use Rattle.std.proofs.Common.{◌≡◌, ◌∙◌, ap, refl, sym, subst, ◌+◌, ◌++◌, List, [], ◌∷◌, drop, get_or, append-nil, append_assoc}
 use Rattle.tb_detail.specs.declared.Detail.{Detail}
 use Rattle.tb_case_records.specs.declared.case.CaseProof.{CaseProof}
-use Rattle.tb_case_records.specs.Ahead.{Ahead}
 use Rattle.tb_case_records.specs.Cases.{CaseForm}
 use Rattle.tb_bundle.specs.Bodies.{case_form, case_forms_from}
 use Rattle.tb_bundle.proofs.AllCases.{forms_more}

@@ -1,8 +1,6 @@
 use Rattle.std.proofs.Common.{rules, ◌≡◌, to_z, of_z}
 use mir.Syntax.{w128}
 use Rattle.tb_checker.proofs.Judged.{loses, passes_out, then_ends}
-use Rattle.tb_checker.specs.Faults.{OfCase}
-use Rattle.tb_checker.specs.declared.fault.CheckFault.TheVariants.{Unbalanced}
 use Rattle.tb_checker.proofs.judge.judge.Goals as goal
 
 pub returns-in-Some : goal.returns-in-Some

@@ -1,4 +1,4 @@
-use Rattle.std.proofs.Common.{◌≡◌, ap, List, length, ◌≤◌, add-one, arith}
+use Rattle.std.proofs.Common.{◌≡◌, ap, List, length, add-one, arith}
 use Rattle.tb_detail.specs.declared.Environment.{Environment}
 use Rattle.tb_outside.proofs.Gathered.{gathers_both, gathers_same}
 use Rattle.tb_checker.specs.Texts.{names_up_to}

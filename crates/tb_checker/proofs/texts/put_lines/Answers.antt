@@ -1,4 +1,4 @@
-use Rattle.std.proofs.Common.{◌≡◌, ◌∙◌, ap, ◌<◌, List, length, get_or, arith}
+use Rattle.std.proofs.Common.{◌∙◌, ap, ◌<◌, List, length, get_or, arith}
 use Rattle.tb_case_records.specs.declared.case.CaseProof.{CaseProof}
 use Rattle.tb_outside.proofs.Each.{gathers_next_item}
 use Rattle.tb_checker.specs.Texts.{accepted_line}
