@@ -54,12 +54,31 @@ fn digits(text: &[u8]) -> Option<u128>
     Some(number)
 }
 
-// The same with the cap of decimals.
+// The number with one more digit, or the cap of decimals where it isn't below that. Each step fits 64 bits.
+fn with_short_digit(number: u64, digit: u8) -> u64
+    requires number { number ≤ 10 ^ 16 }
+    requires digit { digit ≤ 9 }
+    ensures { result ≡ min (number * 10 + digit) (10 ^ 16) }
+{
+    (number * 10 + u64::from(digit)).min(DECIMAL_CAP)
+}
+
+// The number that one digit or more write, or the cap of decimals where it isn't below that.
 fn capped_digits(text: &[u8]) -> Option<u64>
     ensures value { result ≡ (if is_number text.now then Some (min (digits_value 10 text.now) (10 ^ 16)) else None) }
     ensures small { IfSome result (λ n. n ≤ 10 ^ 16) }
 {
-    Some(digits(text)?.min(u128::from(DECIMAL_CAP)) as u64)
+    if text.is_empty() {
+        return None;
+    }
+    let mut number: u64 = 0;
+    for byte in text {
+        if !byte.is_ascii_digit() {
+            return None;
+        }
+        number = with_short_digit(number, *byte - b'0');
+    }
+    Some(number)
 }
 
 // Where the first point stands.
