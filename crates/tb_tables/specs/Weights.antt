@@ -1,18 +1,11 @@
--- Weights as quotients of whole numbers, and the limits of what they are made of.
+-- Weights as quotients of whole numbers, and the limits of a cross-section.
 use Rattle.std.specs.Prelude.{ℕ, zero, suc, ◌*◌, ◌/◌, ◌<◌, ◌≤◌}
+use Rattle.tb_detail.specs.declared.limits.TheConstants.{MOST_LENGTH}
 
--- a conductivity in 10⁻⁴ W/(m·K), a surface resistance in 10⁻⁴ m²K/W, a width in 0.1 mm and an area in 10⁻⁸ m²
-abbrev pub IsConductivity : ℕ → Type 0
-IsConductivity n = (0 < n) × (n ≤ 5000000)
-
-abbrev pub IsResistance : ℕ → Type 0
-IsResistance n = (0 < n) × (n ≤ 100000)
-
-abbrev pub IsWidth : ℕ → Type 0
-IsWidth n = (0 < n) × (n ≤ 500000)
-
-abbrev pub IsArea : ℕ → Type 0
-IsArea n = (0 < n) × (n ≤ 500000 * 500000)
+-- the area of a cross-section, in 10⁻⁸ m²
+pub record IsArea (n : ℕ) : Type 0 where
+  pub above_zero : 0 < n
+  pub at_most : n ≤ MOST_LENGTH * MOST_LENGTH
 
 abbrev pub at_least_one : ℕ → ℕ
 at_least_one zero = 1

@@ -2,7 +2,8 @@
 ghost use Rattle.std.specs.Prelude.{◌≡◌, ◌*◌, ◌^◌, ◌<◌, ◌≤◌, ◌/◌, pos, if◌then◌else◌, nat_eq};
 ghost use Rattle.tb_math.specs.Rational.{int};
 ghost use Rattle.tb_weighted.specs.Weighted.{field_weight, surface_field_weight, flux_weight, surface_flux_weight};
-ghost use Rattle.tb_tables.specs.Weights.{IsArea, IsConductivity, IsResistance, IsWidth, rounded_weight};
+ghost use Rattle.tb_tables.specs.Weights.{IsArea, rounded_weight};
+ghost use Rattle.tb_terms.specs.Limits.{IsConductivity, IsResistance, IsWidth};
 
 // A quotient rounded down, at least 1.
 #[inline]

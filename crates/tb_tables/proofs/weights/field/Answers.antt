@@ -7,4 +7,4 @@ use Rattle.tb_tables.proofs.weights.field.Goals as goal
 pub returns-clause-weight : goal.returns-clause-weight
 returns-clause-weight c =
     let same : c.rounded.result ≡ rounded_weight (c.args.lambda * c.args.area * 2 ^ 10) c.args.width = c.rounded.ensures.value ∙ rw (c.from.ensures, c.from-2.ensures, c.from-3.ensures) refl in
-    ap pos same ∙ field_is c.args.lambda c.args.width c.args.area c.requires.width.0
+    ap pos same ∙ field_is c.args.lambda c.args.width c.args.area c.requires.width.above_zero
