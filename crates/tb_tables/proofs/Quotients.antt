@@ -47,7 +47,7 @@ over p o d e = by_reading {atoms = p ∷ o ∷ d ∷ []} {b = p *ℚ (d *ℚ o)}
 divided : (p : ℚ) (d : ℕ) → 0 < d → (p /ℚ int (pos d)) *ℚ int (pos d) ≡ p
 divided p d h = over p (inverse (int (pos d))) (int (pos d)) (ap (λ (z : ℚ). int (pos d) *ℚ z) (inverse-int d) ∙ one_over_cancel d h)
 
-two : (a b : ℕ) → int (pos a) *ℚ int (pos b) ≡ int (pos (a * b))
+pub two : (a b : ℕ) → int (pos a) *ℚ int (pos b) ≡ int (pos (a * b))
 two a b = sym (int-mul (pos a) (pos b))
 
 three : (a b c : ℕ) → int (pos a) *ℚ int (pos b) *ℚ int (pos c) ≡ int (pos (a * b * c))

@@ -4,5 +4,6 @@
 //! conductivity and size share a row, and so do surfaces ([`rows`]).
 #![tactic(auto)]
 
+pub mod cells;
 pub mod rows;
 pub mod weights;

@@ -66,3 +66,22 @@ pub fn surface(rs: u32, b: u32, c: u32, inside: bool, low_is_air: bool) -> FaceW
         counts: true,
     }
 }
+
+/// The row of air.
+pub fn air() -> CellWeights
+    ensures x { result.x ≡ 0 }
+    ensures y { result.y ≡ 0 }
+    ensures z { result.z ≡ 0 }
+    ensures flux_x { result.flux_x ≡ 0 }
+    ensures flux_y { result.flux_y ≡ 0 }
+    ensures flux_z { result.flux_z ≡ 0 }
+{
+    CellWeights {
+        x: 0,
+        y: 0,
+        z: 0,
+        flux_x: 0,
+        flux_y: 0,
+        flux_z: 0,
+    }
+}
