@@ -1,15 +1,15 @@
 -- The row of what fills a cell is the row of the mesh's cell.
-use Rattle.std.proofs.Common.{◌≡◌, refl, sym, ap, ◌∙◌, subst, ℕ, suc, ◌+◌, ◌-◌, ◌*◌, Option, Some, None, List, map, arith}
+use Rattle.std.proofs.Common.{◌≡◌, refl, sym, ap, ◌∙◌, ℕ, suc, ◌+◌, ◌-◌, ◌*◌, Option, Some, None, List, map, arith}
 use Rattle.std.specs.Prelude.{slice_index}
 use Rattle.std.specs.Option.{option_map}
 use lib.IntN.{ℤ, pos}
-use Rattle.tb_math.specs.Rational.{ℚ, int, one_over, ratio, ◌*ℚ◌}
+use Rattle.tb_math.specs.Rational.{ℚ, int, one_over, ◌*ℚ◌}
 use Rattle.tb_math.proofs.RationalLaws.{*ℚ_comm, *ℚ_one}
 use Rattle.tb_places.specs.declared.AxisName.{AxisName}
 use Rattle.tb_places.specs.declared.AxisName.TheVariants.{X, Y, Z}
 use Rattle.tb_places.specs.declared.Place.{Place}
 use Rattle.tb_places.specs.Along.{index_along}
-use Rattle.tb_places.specs.Places.{along, second, third}
+use Rattle.tb_places.specs.Places.{second, third}
 use Rattle.tb_detail.specs.declared.Content.{Content}
 use Rattle.tb_detail.specs.declared.Content.TheVariants as content
 use Rattle.tb_detail.specs.declared.Detail.{Detail}
@@ -20,7 +20,6 @@ use Rattle.tb_model.specs.Energy.{of_solid}
 use Rattle.tb_model.specs.Mesh.{Mesh, cross_section}
 use Rattle.tb_geometry.specs.Bodies.{filled_with}
 use Rattle.tb_geometry.specs.Grids.{mesh_on, occupant_at}
-use Rattle.tb_geometry.specs.declared.occupant.Occupant.{Occupant}
 use Rattle.tb_geometry.specs.declared.occupant.Occupant.TheVariants.{Solid, Air}
 use Rattle.tb_weighted.specs.Weighted.{field_weight, flux_weight}
 use Rattle.tb_weighted.specs.OnMesh.{mesh_cell, mesh_flux_cell}
@@ -48,14 +47,14 @@ one_over_one : one_over 1 ≡ int (pos 1)
 unfolding one_over int
 one_over_one = refl
 
-whole_width : (g : Axes) (a : AxisName) (p : Place) (w : ℕ) (d : Detail) → w ≡ width_of g a p → int (pos w) ≡ (mesh_on d g).width a (index_along a p)
+pub whole_width : (g : Axes) (a : AxisName) (p : Place) (w : ℕ) (d : Detail) → w ≡ width_of g a p → int (pos w) ≡ (mesh_on d g).width a (index_along a p)
 whole_width g a p w d e = ap (λ (n : ℕ). int (pos n)) (e ∙ ap (λ (n : ℕ). slice_index (lines_of g a) n - slice_index (lines_of g a) (index_along a p)) (up (index_along a p)))
     ∙ sym (ap (λ (q : ℚ). int (pos (slice_index (lines_of g a) (suc (index_along a p)) - slice_index (lines_of g a) (index_along a p))) *ℚ q) one_over_one ∙ *ℚ_comm _ (int (pos 1)) ∙ *ℚ_one _)
   where
     up : (n : ℕ) → n + 1 ≡ suc n
     up n = omega arith
 
-whole_section : (b c : ℕ) (x y : ℚ) → int (pos b) ≡ x → int (pos c) ≡ y → int (pos (b * c)) ≡ x *ℚ y
+pub whole_section : (b c : ℕ) (x y : ℚ) → int (pos b) ≡ x → int (pos c) ≡ y → int (pos (b * c)) ≡ x *ℚ y
 whole_section b c x y e f = sym (two b c) ∙ ap (λ (q : ℚ). q *ℚ int (pos c)) e ∙ ap (λ (q : ℚ). x *ℚ q) f
 
 field_same : (l : ℚ) (w s w' s' : ℚ) → w ≡ w' → s ≡ s' → field_weight l w s ≡ field_weight l w' s'

@@ -5,5 +5,6 @@
 #![tactic(auto)]
 
 pub mod cells;
+pub mod faces;
 pub mod rows;
 pub mod weights;

@@ -1,6 +1,6 @@
 //! Rows of a table: the weights that cells of one conductivity and one size have in common, and surfaces of one
 //! resistance, size and environment.
-ghost use Rattle.std.specs.Prelude.{◌≡◌, ◌*◌, ◌≤◌, true, pos};
+ghost use Rattle.std.specs.Prelude.{◌≡◌, ◌*◌, ◌≤◌, true, false, pos};
 ghost use Rattle.tb_math.specs.Rational.{int};
 ghost use Rattle.tb_terms.specs.Limits.{IsConductivity, IsResistance, IsWidth};
 ghost use Rattle.tb_weighted.specs.Weighted.{field_weight, surface_field_weight, flux_weight, surface_flux_weight};
@@ -83,5 +83,21 @@ pub fn air() -> CellWeights
         flux_x: 0,
         flux_y: 0,
         flux_z: 0,
+    }
+}
+
+/// The row of a face that is no surface: one that counts, or one that doesn't.
+pub fn no_surface(counts: bool) -> FaceWeight
+    ensures field { result.field ≡ 0 }
+    ensures flux { result.flux ≡ 0 }
+    ensures inside { result.inside ≡ false }
+    ensures counts { result.counts ≡ counts }
+{
+    FaceWeight {
+        field: 0,
+        flux: 0,
+        inside: false,
+        low_is_air: false,
+        counts,
     }
 }
