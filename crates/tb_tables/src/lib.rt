@@ -6,5 +6,6 @@
 
 pub mod cells;
 pub mod faces;
+pub mod laws;
 pub mod rows;
 pub mod weights;
