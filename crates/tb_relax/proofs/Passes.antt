@@ -1,13 +1,11 @@
 -- The moves on a table are moves on its mesh.
-use Rattle.std.proofs.Common.{◌≡◌, ◌||◌, refl, sym, ap, subst, ℕ, Bool, true, false, List, map}
+use Rattle.std.proofs.Common.{◌≡◌, ◌||◌, refl, sym, ap, subst, Bool, true, false, List, map}
 use Rattle.std.proofs.lemmas.Bool.{true≢false}
 use lib.IntN.{ℤ}
-use Rattle.tb_places.specs.declared.AxisName.{AxisName}
 use Rattle.tb_places.specs.declared.Place.{Place}
 use Rattle.tb_places.specs.Places.{Counts, node_number}
 use Rattle.tb_model.specs.Energy.{Case}
 use Rattle.tb_model.specs.Mesh.{Mesh}
-use Rattle.tb_weighted.specs.FlowMoves.{IsFlowMove, loop_where}
 use Rattle.tb_weighted.specs.Forms.{IsFormMove}
 use Rattle.tb_weighted.specs.Moves.{IsMove, IsNodeMove, IsPass, Move, State, loop_moves, nodes, pass_moves}
 use Rattle.tb_weighted.specs.Moves.Move.{Loop, Node}

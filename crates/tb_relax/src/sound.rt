@@ -8,7 +8,7 @@ use crate::table::Table;
 impl Table<'_> {
     /// Whether each cell and each face has a row.
     pub fn is_sound(&self) -> bool
-        ensures { IsTrue result → IsTable self.now }
+        ensures { IsTrue result ↔ IsTable self.now }
     {
         self.cells.len() == self.counts.cells() as usize
             && self.faces.len() == self.counts.faces() as usize
@@ -18,14 +18,14 @@ impl Table<'_> {
 
     /// Whether values are those of a field: one for each node, from 0 to 1.
     pub fn fits(&self, values: &[i64]) -> bool
-        ensures { IsTrue result → IsField (table_counts self.now) values.now }
+        ensures { IsTrue result ↔ IsField (table_counts self.now) values.now }
     {
         values.len() == self.counts.nodes() as usize && all_in_field(values)
     }
 
     /// Whether flows are those of a flux: one for each face, within the limits.
     pub fn holds(&self, flows: &[i64]) -> bool
-        ensures { IsTrue result → IsFlux (table_counts self.now) flows.now }
+        ensures { IsTrue result ↔ IsFlux (table_counts self.now) flows.now }
     {
         flows.len() == self.counts.faces() as usize && all_in_flow(flows)
     }

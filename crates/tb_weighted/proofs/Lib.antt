@@ -21,3 +21,4 @@ pub mod FlowMoves
 pub mod FlowSlopes
 pub mod Through
 pub mod Rounds
+pub mod Lowering

@@ -18,7 +18,6 @@ use Rattle.tb_weighted.specs.Forms.{Forms, over_axis, axis_rate, axis_slope, for
 use Rattle.tb_weighted.specs.Flows.{FlowForms, over_flows, flow_cell, flow_cell_slope, flow_face_slope, flow_face_rate}
 use Rattle.tb_weighted.specs.Forms.{line_near}
 use Rattle.tb_weighted.proofs.FlowLaws as flow
-use Rattle.tb_weighted.specs.Least.{IsNearestLeast, parabola}
 use Rattle.tb_weighted.proofs.Touching.{above_slope, above_rate, below_slope, below_rate}
 
 -- the code's product and the definition's
@@ -160,6 +159,3 @@ axis_flow_slopes f g a p q r hp hq hr = flow.axis_on_line (f.cells a) (f.cells (
 
 pub flow_slope_at : (r t p s w h w' e : ℤ) → r ≡ t +ℤ s → t ≡ pos 2 *ℤ p → p ≡ w *ℤ h → w ≡ w' → s ≡ e → r ≡ pos 2 *ℤ (w' *ℤ h) +ℤ e
 flow_slope_at r t p s w h w' e a b c d f = a ∙ ap (λ (z : ℤ). z +ℤ s) (b ∙ ap (λ (z : ℤ). pos 2 *ℤ z) (c ∙ ap (λ (z : ℤ). z *ℤ h) d)) ∙ ap (λ (z : ℤ). pos 2 *ℤ (w' *ℤ h) +ℤ z) f
-
-pub least_as : (a a' b b' lo hi t t' : ℤ) → a ≡ a' → b ≡ b' → t ≡ t' → IsNearestLeast (parabola a b) lo hi (pos 0) t → (low : ℤ) × (high : ℤ) × IsNearestLeast (parabola a' b') low high (pos 0) t'
-least_as a a' b b' lo hi t t' e f g h = (lo, hi, subst (λ (x : ℤ). IsNearestLeast (parabola x b') lo hi (pos 0) t') e (subst (λ (x : ℤ). IsNearestLeast (parabola a x) lo hi (pos 0) t') f (subst (λ (x : ℤ). IsNearestLeast (parabola a b) lo hi (pos 0) x) g h)))

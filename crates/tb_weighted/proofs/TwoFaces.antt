@@ -1,6 +1,6 @@
--- A loop changes two faces across each of two axes, on different lines of cells: along each axis its slope and its rate
--- are the sums of those of its faces.
-use mathlib.Core.Path.{◌≡◌, refl, sym, ap, ◌∙◌}
+-- Mixtures of two changes of a flux: along an axis the slope is linear in the change. And what it means that two faces
+-- stand on different lines of cells.
+use mathlib.Core.Path.{◌≡◌, refl, sym, ◌∙◌}
 use mathlib.Core.Bool.{Bool, true, false}
 use mathlib.Core.List.{[], ◌∷◌}
 use Prim.Native.Nat.{ℕ, zero, suc}
@@ -9,8 +9,8 @@ use Rattle.std.proofs.lemmas.Bool.{eqb-true, eqb-false}
 use lib.IntN.{ℤ, pos, ◌+ℤ◌, ◌*ℤ◌}
 use Rattle.tb_math.specs.Sums.{total_ℤ}
 use Rattle.tb_math.proofs.ReadIntegers.{by_reading, reading}
-use Rattle.tb_weighted.specs.Forms.{Spread3, line_sum, axis_sum, only_at, bit}
-use Rattle.tb_weighted.specs.Flows.{flow_cell, flow_cell_slope, flow_face_slope, flow_face_rate}
+use Rattle.tb_weighted.specs.Forms.{Spread3, line_sum, axis_sum, bit}
+use Rattle.tb_weighted.specs.Flows.{flow_cell_slope, flow_face_slope}
 use Rattle.tb_weighted.proofs.Local.{bit_other}
 
 nothing : (c d : ℤ) → pos 0 ≡ c *ℤ pos 0 +ℤ d *ℤ pos 0
@@ -55,43 +55,6 @@ slopes_mixed c d n m p v s e g a b = axis_mixed c d n m p _ _ (flow_cell_slope v
     (λ i j k. slope_in_cell c d (v i j k) (g i j k) (g (suc i) j k) (a i j k) (a (suc i) j k) (b i j k) (b (suc i) j k))
     (λ i j k. slope_at_face c d (s i j k) (e i j k) (g i j k) (a i j k) (b i j k))
 
--- the rate too, where the two stand on different lines of cells
-rate_in_cell : (c d v x0 x1 w x0' x1' w' : ℤ) → w *ℤ w' ≡ pos 0
-    → v *ℤ ((c *ℤ (x0 *ℤ w) +ℤ d *ℤ (x0' *ℤ w')) *ℤ (c *ℤ (x0 *ℤ w) +ℤ d *ℤ (x0' *ℤ w')) +ℤ (c *ℤ (x0 *ℤ w) +ℤ d *ℤ (x0' *ℤ w')) *ℤ (c *ℤ (x1 *ℤ w) +ℤ d *ℤ (x1' *ℤ w')) +ℤ (c *ℤ (x1 *ℤ w) +ℤ d *ℤ (x1' *ℤ w')) *ℤ (c *ℤ (x1 *ℤ w) +ℤ d *ℤ (x1' *ℤ w')))
-    ≡ c *ℤ c *ℤ (v *ℤ ((x0 *ℤ w) *ℤ (x0 *ℤ w) +ℤ (x0 *ℤ w) *ℤ (x1 *ℤ w) +ℤ (x1 *ℤ w) *ℤ (x1 *ℤ w))) +ℤ d *ℤ d *ℤ (v *ℤ ((x0' *ℤ w') *ℤ (x0' *ℤ w') +ℤ (x0' *ℤ w') *ℤ (x1' *ℤ w') +ℤ (x1' *ℤ w') *ℤ (x1' *ℤ w')))
-rate_in_cell c d v x0 x1 w x0' x1' w' h = split c d v x0 x1 w x0' x1' w' ∙ ap (λ (z : ℤ). whole +ℤ rest *ℤ z) h ∙ none whole rest
-  where
-    whole : ℤ
-    whole = c *ℤ c *ℤ (v *ℤ ((x0 *ℤ w) *ℤ (x0 *ℤ w) +ℤ (x0 *ℤ w) *ℤ (x1 *ℤ w) +ℤ (x1 *ℤ w) *ℤ (x1 *ℤ w))) +ℤ d *ℤ d *ℤ (v *ℤ ((x0' *ℤ w') *ℤ (x0' *ℤ w') +ℤ (x0' *ℤ w') *ℤ (x1' *ℤ w') +ℤ (x1' *ℤ w') *ℤ (x1' *ℤ w')))
-
-    rest : ℤ
-    rest = c *ℤ d *ℤ v *ℤ (pos 2 *ℤ (x0 *ℤ x0') +ℤ x0 *ℤ x1' +ℤ x1 *ℤ x0' +ℤ pos 2 *ℤ (x1 *ℤ x1'))
-
-    none : (x y : ℤ) → x +ℤ y *ℤ pos 0 ≡ x
-    none x y = by_reading {atoms = x ∷ y ∷ []} (search reading) (search reading) refl
-
-    split : (c d v x0 x1 w x0' x1' w' : ℤ) → v *ℤ ((c *ℤ (x0 *ℤ w) +ℤ d *ℤ (x0' *ℤ w')) *ℤ (c *ℤ (x0 *ℤ w) +ℤ d *ℤ (x0' *ℤ w')) +ℤ (c *ℤ (x0 *ℤ w) +ℤ d *ℤ (x0' *ℤ w')) *ℤ (c *ℤ (x1 *ℤ w) +ℤ d *ℤ (x1' *ℤ w')) +ℤ (c *ℤ (x1 *ℤ w) +ℤ d *ℤ (x1' *ℤ w')) *ℤ (c *ℤ (x1 *ℤ w) +ℤ d *ℤ (x1' *ℤ w')))
-        ≡ (c *ℤ c *ℤ (v *ℤ ((x0 *ℤ w) *ℤ (x0 *ℤ w) +ℤ (x0 *ℤ w) *ℤ (x1 *ℤ w) +ℤ (x1 *ℤ w) *ℤ (x1 *ℤ w))) +ℤ d *ℤ d *ℤ (v *ℤ ((x0' *ℤ w') *ℤ (x0' *ℤ w') +ℤ (x0' *ℤ w') *ℤ (x1' *ℤ w') +ℤ (x1' *ℤ w') *ℤ (x1' *ℤ w'))))
-        +ℤ (c *ℤ d *ℤ v *ℤ (pos 2 *ℤ (x0 *ℤ x0') +ℤ x0 *ℤ x1' +ℤ x1 *ℤ x0' +ℤ pos 2 *ℤ (x1 *ℤ x1'))) *ℤ (w *ℤ w')
-    split c d v x0 x1 w x0' x1' w' = by_reading {atoms = c ∷ d ∷ v ∷ x0 ∷ x1 ∷ w ∷ x0' ∷ x1' ∷ w' ∷ []} (search reading depth 60 fits 100000) (search reading depth 60 fits 100000) refl
-
-rate_at_face : (c d s x w x' w' : ℤ) → w *ℤ w' ≡ pos 0 → s *ℤ ((c *ℤ (x *ℤ w) +ℤ d *ℤ (x' *ℤ w')) *ℤ (c *ℤ (x *ℤ w) +ℤ d *ℤ (x' *ℤ w')))
-    ≡ c *ℤ c *ℤ (s *ℤ ((x *ℤ w) *ℤ (x *ℤ w))) +ℤ d *ℤ d *ℤ (s *ℤ ((x' *ℤ w') *ℤ (x' *ℤ w')))
-rate_at_face c d s x w x' w' h = split c d s x w x' w' ∙ ap (λ (z : ℤ). whole +ℤ rest *ℤ z) h ∙ none whole rest
-  where
-    whole : ℤ
-    whole = c *ℤ c *ℤ (s *ℤ ((x *ℤ w) *ℤ (x *ℤ w))) +ℤ d *ℤ d *ℤ (s *ℤ ((x' *ℤ w') *ℤ (x' *ℤ w')))
-
-    rest : ℤ
-    rest = pos 2 *ℤ (c *ℤ d *ℤ s *ℤ (x *ℤ x'))
-
-    none : (x y : ℤ) → x +ℤ y *ℤ pos 0 ≡ x
-    none x y = by_reading {atoms = x ∷ y ∷ []} (search reading) (search reading) refl
-
-    split : (c d s x w x' w' : ℤ) → s *ℤ ((c *ℤ (x *ℤ w) +ℤ d *ℤ (x' *ℤ w')) *ℤ (c *ℤ (x *ℤ w) +ℤ d *ℤ (x' *ℤ w')))
-        ≡ (c *ℤ c *ℤ (s *ℤ ((x *ℤ w) *ℤ (x *ℤ w))) +ℤ d *ℤ d *ℤ (s *ℤ ((x' *ℤ w') *ℤ (x' *ℤ w')))) +ℤ (pos 2 *ℤ (c *ℤ d *ℤ s *ℤ (x *ℤ x'))) *ℤ (w *ℤ w')
-    split c d s x w x' w' = by_reading {atoms = c ∷ d ∷ s ∷ x ∷ w ∷ x' ∷ w' ∷ []} (search reading depth 60 fits 100000) (search reading depth 60 fits 100000) refl
-
 zero_of : (x y : ℤ) → x ≡ pos 0 → x *ℤ y ≡ pos 0
 zero_of x y e = rw e (by_reading {atoms = y ∷ []} (search reading) (search reading) refl)
 
@@ -117,10 +80,3 @@ apart_second q r q' r' h j k = regroup (bit j q) (bit k r) (bit j q') (bit k r')
 
 pub apart_third : (q r q' r' : ℕ) → r ≢ r' → AreApart q r q' r'
 apart_third q r q' r' h j k = regroup (bit j q) (bit k r) (bit j q') (bit k r') ∙ zero_in (bit j q *ℤ bit j q') (bit k r *ℤ bit k r') (bits_apart k r r' h)
-
-pub rates_mixed : (c d : ℤ) (n m l : ℕ) (v s : Spread3) (p q r p' q' r' : ℕ) → AreApart q r q' r'
-    → axis_sum n m l (flow_cell v (mixed c d (only_at p q r) (only_at p' q' r'))) (flow_face_rate s (mixed c d (only_at p q r) (only_at p' q' r')))
-    ≡ (c *ℤ c) *ℤ axis_sum n m l (flow_cell v (only_at p q r)) (flow_face_rate s (only_at p q r)) +ℤ (d *ℤ d) *ℤ axis_sum n m l (flow_cell v (only_at p' q' r')) (flow_face_rate s (only_at p' q' r'))
-rates_mixed c d n m l v s p q r p' q' r' h = axis_mixed (c *ℤ c) (d *ℤ d) n m l _ _ (flow_cell v (only_at p q r)) (flow_face_rate s (only_at p q r)) (flow_cell v (only_at p' q' r')) (flow_face_rate s (only_at p' q' r'))
-    (λ i j k. rate_in_cell c d (v i j k) (bit i p) (bit (suc i) p) (bit j q *ℤ bit k r) (bit i p') (bit (suc i) p') (bit j q' *ℤ bit k r') (h j k))
-    (λ i j k. rate_at_face c d (s i j k) (bit i p) (bit j q *ℤ bit k r) (bit i p') (bit j q' *ℤ bit k r') (h j k))

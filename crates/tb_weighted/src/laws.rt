@@ -9,9 +9,9 @@ ghost use Rattle.tb_model.specs.Values.{field_of};
 ghost use Rattle.tb_weighted.specs.Forms.{Forms, form_energy};
 ghost use Rattle.tb_weighted.specs.Least.{IsNearestLeast, parabola};
 ghost use Rattle.tb_weighted.specs.FlowMoves.{IsFlowMove, IsFlowMoveBy, counts_as, loop_where};
-ghost use Rattle.tb_weighted.specs.Limits.{IsFlux};
-ghost use Rattle.tb_weighted.specs.Moves.{Flows, IsLoopMove, IsNodeMove, whole_flux};
-ghost use Rattle.tb_weighted.specs.Flows.{FlowForms, flow_energy};
+ghost use Rattle.tb_weighted.specs.Limits.{InField, IsFlux};
+ghost use Rattle.tb_weighted.specs.Moves.{Flows, IsLoopMove, IsNodeMove, value_at, whole_flux};
+ghost use Rattle.tb_weighted.specs.Flows.{FlowForms, flow_energy, flows_of};
 ghost use Rattle.tb_weighted.specs.OnMesh.{IsFormOf, IsFlowFormOf};
 ghost use Rattle.tb_weighted.specs.Forms.{IsFormMove, values_of};
 ghost use Rattle.tb_weighted.specs.Weighted.{weighted_field, weighted_flux};
@@ -45,4 +45,12 @@ pub fn flow_forms_are_energies()
 pub fn flow_moves_keep()
     ensures limits { (f : FlowForms) (change : Flows) (t : ℤ) (old new : List ℤ) → IsFlowMoveBy f change t old new → IsFlux f.cells old → IsFlux f.cells new }
     ensures changes { (f : FlowForms) (change : Flows) (t : ℤ) (old new : List ℤ) → IsFlowMoveBy f change t old new → IsFlux f.cells old → new ≡ old → t ≡ pos 0 }
+{}
+
+/// A move raises no weighted energy: that of a node not the field's, that of a loop not the flux's.
+pub fn moves_raise_nothing()
+    ensures node { (m : Mesh) (inside : Case) (node : ℕ) (old new : List ℤ) → IsNodeMove m inside node old new → InField (value_at old node)
+        → weighted_field m inside (field_of m.cells new) ≤ℤ weighted_field m inside (field_of m.cells old) }
+    ensures edge { (m : Mesh) (inside : Case) (axis : AxisName) (e : Place) (old new : List ℤ) → IsLoopMove m inside axis e old new → IsFlux m.cells old
+        → weighted_flux m inside (whole_flux (flows_of m.cells new)) ≤ℤ weighted_flux m inside (whole_flux (flows_of m.cells old)) }
 {}

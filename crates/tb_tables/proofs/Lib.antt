@@ -1,0 +1,4 @@
+pub mod Quotients
+pub mod MeshRows
+pub mod FaceRows
+pub mod Tables
