@@ -5,6 +5,7 @@
 #![tactic(auto)]
 
 mod cycle;
+pub mod laws;
 mod pulls;
 mod way;
 
