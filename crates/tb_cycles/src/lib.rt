@@ -4,6 +4,7 @@
 //! every other face that isn't an outlet. [`cycle_pull`] sums over it what a function tells of each face.
 #![tactic(auto)]
 
+mod adding;
 mod cycle;
 pub mod laws;
 mod pulls;

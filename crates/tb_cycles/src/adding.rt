@@ -1,0 +1,53 @@
+// Adding a multiple of a cycle to a flux.
+ghost use Rattle.std.specs.Prelude.{◌≡◌, ◌+◌, ◌*◌, ◌<◌, ◌≤◌, ◌^◌, ℕ, List, ℤ, length, slice_set, unsigned_abs, ◌+ℤ◌, ◌-ℤ◌, ◌*ℤ◌};
+ghost use Rattle.tb_places.specs.Places.{IsCell, cell_count, face_count};
+ghost use Rattle.tb_grid.specs.Views.{along_axes};
+ghost use Rattle.tb_model.specs.Mesh.{Mesh};
+ghost use Rattle.tb_outlets.specs.Balancing.{IsWithinLimits, flow, side_at};
+ghost use Rattle.tb_outlets.specs.Cycles.{out};
+ghost use Rattle.tb_outlets.specs.Repair.{IsCycle};
+ghost use Rattle.tb_outlets.specs.Searching.{distance_at};
+ghost use Rattle.tb_outlets.specs.Sides.{face_of, number_on};
+ghost use Rattle.tb_cycles.specs.Entries.{IsEntry};
+ghost use Rattle.tb_cycles.specs.Ways.{LeadOut, LeadOutOn};
+
+use tb_grid::{CellCounts, CellId, FaceId, Place};
+use tb_outlets::Side;
+
+// The face on a side of the cell at a place.
+fn face_on(counts: CellCounts, cell: Place, side: Side) -> FaceId
+    requires { IsCell (along_axes counts) cell }
+    ensures face { result.0 ≡ number_on (along_axes counts) side cell }
+    ensures within { result.0 < face_count (along_axes counts) }
+{
+    match side {
+        Side::Low(axis) => counts.low_face(axis, cell),
+        Side::High(axis) => counts.high_face(axis, cell),
+    }
+}
+
+// A flow through the face on a side of a cell, where so much more leaves the cell there.
+fn leaving_more(flow: i64, side: Side, more: i64) -> i64
+    requires flow { unsigned_abs flow ≤ 10 ^ 12 }
+    requires more { unsigned_abs more ≤ 2 * 10 ^ 12 }
+    ensures { result ≡ flow +ℤ out side *ℤ more }
+{
+    match side {
+        Side::Low(_) => flow - more,
+        Side::High(_) => flow + more,
+    }
+}
+
+// Lets so much more leave a cell through the face on a side of it.
+fn put(counts: CellCounts, flows: &mut [i64], cell: CellId, side: Side, more: i64)
+    requires cell { cell.0 < cell_count (along_axes counts) }
+    requires whole { length flows.old ≡ face_count (along_axes counts) }
+    requires flow { unsigned_abs (flow flows.old (face_of (along_axes counts) cell.0 side)) ≤ 10 ^ 12 }
+    requires more { unsigned_abs more ≤ 2 * 10 ^ 12 }
+    ensures { let face = face_of (along_axes counts) cell.0 side in
+        flows.new ≡ slice_set flows.old face (flow flows.old face +ℤ out side *ℤ more) }
+{
+    let face = face_on(counts, counts.cell_place(cell), side);
+    let at = face.0 as usize;
+    flows[at] = leaving_more(flows[at], side, more);
+}
