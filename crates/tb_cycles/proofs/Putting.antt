@@ -1,10 +1,11 @@
 -- A multiple of a cycle, put into a flux on the way of outlets.
-use Rattle.std.proofs.Common.{◌≡◌, ◌≢◌, ℕ, ◌<◌, ◌≤◌, List, [], ◌∷◌, length, arith, refl, sym, ap, subst, ◌∙◌, ⊎_elim, get_or-set_other, get_or-set_same}
-use Rattle.std.specs.Prelude.{ℤ, pos, ◌+ℤ◌, ◌*ℤ◌, slice_set}
+use Rattle.std.proofs.Common.{◌≡◌, ◌≢◌, ℕ, ◌+◌, ◌*◌, ◌^◌, ◌<◌, ◌≤◌, List, [], ◌∷◌, length, arith, refl, sym, ap, subst, ◌∙◌, ⊎_elim, get_or-set_other, get_or-set_same}
+use Rattle.std.specs.Prelude.{ℤ, pos, ◌+ℤ◌, ◌*ℤ◌, slice_set, unsigned_abs}
 use Rattle.std.proofs.lemmas.Int.{ints}
 use Rattle.std.proofs.lemmas.Bool.{cases_eq}
 use Rattle.tb_math.proofs.ReadIntegers.{by_reading, reading}
-use Rattle.tb_places.specs.Places.{Counts}
+use Rattle.tb_places.specs.Inverse.{cell_place}
+use Rattle.tb_places.specs.Places.{Counts, face_count}
 use Rattle.tb_model.specs.Mesh.{Mesh}
 use Rattle.tb_outlets.specs.declared.marks.Mark.{Mark}
 use Rattle.tb_outlets.specs.declared.side.Side.{Side}
@@ -14,7 +15,12 @@ use Rattle.tb_outlets.specs.Outlets.{IsSolidAt}
 use Rattle.tb_outlets.specs.Searching.{distance_at}
 use Rattle.tb_outlets.specs.Sides.{face_of}
 use Rattle.tb_outlets.proofs.Carrying.{IsOnWay, carried, next_on_way, uncarried}
+use Rattle.tb_outlets.specs.Repair.{IsCycle}
+use Rattle.tb_outlets.proofs.MeshCycles.{begins_way, is_cycle, one_cycle, outward}
+use Rattle.tb_outlets.proofs.Sides.{number_below}
 use Rattle.tb_outlets.proofs.Trees.{tree}
+use Rattle.tb_cycles.specs.Entries.{IsEntry, IsStart, entering_flow}
+use Rattle.tb_cycles.proofs.Entering.{root_has_none}
 use Rattle.tb_cycles.specs.Ways.{IsLast, IsNext, LeadOut}
 use Rattle.tb_cycles.proofs.Outward.{IsFollowed, followed, nothing_left}
 
@@ -102,3 +108,84 @@ module _ (m : Mesh) (marks : List Mark) (sides : List Side) (leads : LeadOut m m
       let ends : carry (face_of m.cells) (side_at sides) is.part c ≡ whole =
       subst (λ (es : List ℕ). carry_all (face_of m.cells) (side_at sides) is.part c es ≡ whole) none is.ends in
       one_put now next c is within made f ∙ ap (λ (l : List ℤ). flow old f +ℤ t *ℤ flow l f) ends
+
+-- ---- from the cell where a cycle enters
+
+no_outlet : (m : Mesh) (marks : List Mark) (sides : List Side) → LeadOut m marks sides → (f c : ℕ) (s : Side) → IsEntry m f c s → s ≢ side_at sides c
+no_outlet m marks sides leads f c s entry same = root_has_none m (side_at sides) f c s leads.outlets (sym same) entry
+
+pub begun_at : (m : Mesh) (marks : List Mark) (sides : List Side) → LeadOut m marks sides → (f c : ℕ) (s : Side) → IsEntry m f c s →
+    IsOnWay (face_of m.cells) (IsSolidAt m) (side_at sides) (distance_at marks) (entering_flow m c s) c
+begun_at m marks sides leads f c s entry =
+    begins_way m (side_at sides) (distance_at marks) c s entry.solid entry.surface (no_outlet m marks sides leads f c s entry)
+
+way_from : (m : Mesh) (marks : List Mark) (sides : List Side) → LeadOut m marks sides → (c : ℕ) → IsSolidAt m c →
+    (es : List ℕ) × IsOutward (face_of m.cells) (IsSolidAt m) (side_at sides) c es
+way_from m marks sides leads c here = outward m (side_at sides) (distance_at marks) leads.outlets leads.distances (distance_at marks c) c here (omega arith)
+
+pub some_cycle : (m : Mesh) (marks : List Mark) (sides : List Side) → LeadOut m marks sides → (f c : ℕ) (s : Side) → IsEntry m f c s →
+    (z : List ℤ) × IsCycle m c s z
+some_cycle m marks sides leads f c s entry =
+    let way = way_from m marks sides leads c entry.solid in (
+      carry_all (face_of m.cells) (side_at sides) (entering_flow m c s) c way.0,
+      is_cycle m (side_at sides) (distance_at marks) c s way.0 leads.outlets leads.distances entry.solid entry.surface (no_outlet m marks sides leads f c s entry) way.1,
+    )
+
+pub nothing_put : (m : Mesh) (marks : List Mark) (sides : List Side) → LeadOut m marks sides → (f c : ℕ) (s : Side) (z flows : List ℤ) (t : ℤ) →
+    IsEntry m f c s → IsCycle m c s z → IsPut m marks sides t (entering_flow m c s) z flows flows c
+nothing_put m marks sides leads f c s z flows t entry cycle =
+    let way = way_from m marks sides leads c entry.solid in
+    record {
+      part = entering_flow m c s;
+      rest = way.0;
+      way = begun_at m marks sides leads f c s entry;
+      outward = way.1;
+      ends = one_cycle m (side_at sides) (distance_at marks) c s _ z leads.outlets leads.distances
+          (is_cycle m (side_at sides) (distance_at marks) c s way.0 leads.outlets leads.distances entry.solid entry.surface (no_outlet m marks sides leads f c s entry) way.1) cycle;
+      values = λ g. refl;
+    }
+
+-- on whatever mesh has these lists
+abbrev pub IsPutOn : Counts → List Mark → List Side → ℕ → Side → ℤ → (old now : List ℤ) → ℕ → Type 0
+IsPutOn n marks sides c s t old now d = (m : Mesh) → n ≡ m.cells → LeadOut m marks sides → (f : ℕ) (z : List ℤ) → IsEntry m f c s → IsCycle m c s z →
+    IsPut m marks sides t (entering_flow m c s) z old now d
+
+pub within_put : (n : Counts) (marks : List Mark) (sides : List Side) (c : ℕ) (s : Side) (t : ℤ) (old now : List ℤ) (d : ℕ) → IsStart n marks sides c s →
+    ((e : ℕ) → 0 < distance_at marks e → unsigned_abs (flow old (face_of n e (side_at sides e))) ≤ 10 ^ 12) → 0 < distance_at marks d →
+    distance_at marks d ≤ distance_at marks c → IsPutOn n marks sides c s t old now d → unsigned_abs (flow now (face_of n d (side_at sides d))) ≤ 10 ^ 12
+within_put n marks sides c s t old now d start limits found near put =
+    let m = start.mesh in
+    let cycle = some_cycle m marks sides start.leads start.face c s start.entry in
+    let is = put m start.counts start.leads start.face cycle.0 start.entry cycle.1 in
+    let same : flow now (face_of m.cells d (side_at sides d)) ≡ flow old (face_of m.cells d (side_at sides d)) =
+    untouched m marks sides start.leads t (entering_flow m c s) cycle.0 old now c d (begun_at m marks sides start.leads start.face c s start.entry) near is in
+    let here : flow now (face_of n d (side_at sides d)) ≡ flow old (face_of n d (side_at sides d)) =
+    subst (λ (k : Counts). flow now (face_of k d (side_at sides d)) ≡ flow old (face_of k d (side_at sides d))) (sym start.counts) same in
+    subst (λ (x : ℤ). unsigned_abs x ≤ 10 ^ 12) (sym here) (limits d found)
+
+-- a step, and the last, as a program takes them
+outlet_within : (n : Counts) (m : Mesh) (marks : List Mark) (sides : List Side) (d : ℕ) (now : List ℤ) → n ≡ m.cells → LeadOut m marks sides →
+    0 < distance_at marks d → length now ≡ face_count n → face_of m.cells d (side_at sides d) < length now
+outlet_within n m marks sides d now same leads found long =
+    let below = number_below m.cells (cell_place m.cells d) (side_at sides d) (leads.found d found).1.0 in
+    let count = ap face_count same in
+    omega (arith, below, count, long)
+
+pub step_put_on : (n : Counts) (marks : List Mark) (sides : List Side) (c : ℕ) (s : Side) (t : ℤ) (old now next : List ℤ) (d e : ℕ) →
+    0 < distance_at marks d → length now ≡ face_count n → IsNext n marks sides d e →
+    next ≡ slice_set now (face_of n d (side_at sides d)) (flow now (face_of n d (side_at sides d)) +ℤ out (side_at sides d) *ℤ t) →
+    IsPutOn n marks sides c s t old now d → IsPutOn n marks sides c s t old next e
+step_put_on n marks sides c s t old now next d e found long further made put m same leads f z entry cycle =
+    step_put m marks sides leads t (entering_flow m c s) z old now next d e (put m same leads f z entry cycle)
+    (subst (λ (k : Counts). IsNext k marks sides d e) same further) (outlet_within n m marks sides d now same leads found long)
+    (made ∙ ap (λ (k : Counts). slice_set now (face_of k d (side_at sides d)) (flow now (face_of k d (side_at sides d)) +ℤ out (side_at sides d) *ℤ t)) same)
+
+pub end_put_on : (n : Counts) (marks : List Mark) (sides : List Side) (c : ℕ) (s : Side) (t : ℤ) (old now next : List ℤ) (d : ℕ) →
+    0 < distance_at marks d → length now ≡ face_count n → IsLast n marks sides d →
+    next ≡ slice_set now (face_of n d (side_at sides d)) (flow now (face_of n d (side_at sides d)) +ℤ out (side_at sides d) *ℤ t) →
+    IsPutOn n marks sides c s t old now d → (m : Mesh) → n ≡ m.cells → LeadOut m marks sides → (f : ℕ) (z : List ℤ) → IsEntry m f c s → IsCycle m c s z →
+    (g : ℕ) → flow next g +ℤ t *ℤ flow (entering_flow m c s) g ≡ flow old g +ℤ t *ℤ flow z g
+end_put_on n marks sides c s t old now next d found long last made put m same leads f z entry cycle =
+    end_put m marks sides leads t (entering_flow m c s) z old now next d (put m same leads f z entry cycle)
+    (subst (λ (k : Counts). IsLast k marks sides d) same last) (outlet_within n m marks sides d now same leads found long)
+    (made ∙ ap (λ (k : Counts). slice_set now (face_of k d (side_at sides d)) (flow now (face_of k d (side_at sides d)) +ℤ out (side_at sides d) *ℤ t)) same)

@@ -8,11 +8,13 @@ ghost use Rattle.tb_outlets.specs.Cycles.{out};
 ghost use Rattle.tb_outlets.specs.Repair.{IsCycle};
 ghost use Rattle.tb_outlets.specs.Searching.{distance_at};
 ghost use Rattle.tb_outlets.specs.Sides.{face_of, number_on};
-ghost use Rattle.tb_cycles.specs.Entries.{IsEntry};
-ghost use Rattle.tb_cycles.specs.Ways.{LeadOut, LeadOutOn};
+ghost use Rattle.tb_cycles.specs.Entries.{IsEntry, IsStart, entering_flow};
+ghost use Rattle.tb_cycles.specs.Ways.{LeadOut};
 
+use crate::cycle::CycleEntry;
+use crate::way::next_outward;
 use tb_grid::{CellCounts, CellId, FaceId, Place};
-use tb_outlets::Side;
+use tb_outlets::{Mark, Side};
 
 // The face on a side of the cell at a place.
 fn face_on(counts: CellCounts, cell: Place, side: Side) -> FaceId
@@ -50,4 +52,31 @@ fn put(counts: CellCounts, flows: &mut [i64], cell: CellId, side: Side, more: i6
     let face = face_on(counts, counts.cell_place(cell), side);
     let at = face.0 as usize;
     flows[at] = leaving_more(flows[at], side, more);
+}
+
+// Lets so much more leave each cell on the way from that where a cycle enters to the root.
+fn put_outward(
+    counts: CellCounts,
+    marks: &[Mark],
+    sides: &[Side],
+    flows: &mut [i64],
+    entry: CycleEntry,
+    more: i64,
+)
+    requires start { IsStart (along_axes counts) marks.now sides.now entry.cell.0 entry.side }
+    requires whole { length flows.old ≡ face_count (along_axes counts) }
+    requires limits { (d : ℕ) → 0 < distance_at marks.now d
+        → unsigned_abs (flow flows.old (face_of (along_axes counts) d (side_at sides.now d))) ≤ 10 ^ 12 }
+    requires more { unsigned_abs more ≤ 2 * 10 ^ 12 }
+    ensures whole { length flows.new ≡ face_count (along_axes counts) }
+    ensures put { (m : Mesh) → along_axes counts ≡ m.cells → LeadOut m marks.now sides.now → (f : ℕ) (z : List ℤ)
+        → IsEntry m f entry.cell.0 entry.side → IsCycle m entry.cell.0 entry.side z → (g : ℕ)
+        → flow flows.new g +ℤ more *ℤ flow (entering_flow m entry.cell.0 entry.side) g ≡ flow flows.old g +ℤ more *ℤ flow z g }
+{
+    let mut cell = entry.cell;
+    while let Some(next) = next_outward(counts, marks, sides, cell) {
+        put(counts, flows, cell, sides[cell.0 as usize], more);
+        cell = next;
+    }
+    put(counts, flows, cell, sides[cell.0 as usize], more);
 }
