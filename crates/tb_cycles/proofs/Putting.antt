@@ -1,23 +1,25 @@
 -- A multiple of a cycle, put into a flux on the way of outlets.
 use Rattle.std.proofs.Common.{◌≡◌, ◌≢◌, ℕ, ◌+◌, ◌*◌, ◌^◌, ◌<◌, ◌≤◌, List, [], ◌∷◌, length, arith, refl, sym, ap, subst, ◌∙◌, ⊎_elim, get_or-set_other, get_or-set_same}
-use Rattle.std.specs.Prelude.{ℤ, pos, ◌+ℤ◌, ◌*ℤ◌, slice_set, unsigned_abs}
+use Rattle.std.specs.Prelude.{ℤ, pos, ◌+ℤ◌, ◌*ℤ◌, slice_set, unsigned_abs, neg_ℤ}
 use Rattle.std.proofs.lemmas.Int.{ints}
 use Rattle.std.proofs.lemmas.Bool.{cases_eq}
+use Rattle.std.proofs.lemmas.List.{length-replicate}
+use Rattle.std.proofs.Math.ListN.{replicate}
 use Rattle.tb_math.proofs.ReadIntegers.{by_reading, reading}
 use Rattle.tb_places.specs.Inverse.{cell_place}
 use Rattle.tb_places.specs.Places.{Counts, face_count}
 use Rattle.tb_model.specs.Mesh.{Mesh}
 use Rattle.tb_outlets.specs.declared.marks.Mark.{Mark}
 use Rattle.tb_outlets.specs.declared.side.Side.{Side}
-use Rattle.tb_outlets.specs.Balancing.{flow, side_at}
+use Rattle.tb_outlets.specs.Balancing.{IsWithinLimits, flow, side_at}
 use Rattle.tb_outlets.specs.Cycles.{IsOutward, carry, carry_all, opposite, out}
 use Rattle.tb_outlets.specs.Outlets.{IsSolidAt}
 use Rattle.tb_outlets.specs.Searching.{distance_at}
 use Rattle.tb_outlets.specs.Sides.{face_of}
 use Rattle.tb_outlets.proofs.Carrying.{IsOnWay, carried, next_on_way, uncarried}
 use Rattle.tb_outlets.specs.Repair.{IsCycle}
-use Rattle.tb_outlets.proofs.MeshCycles.{begins_way, is_cycle, one_cycle, outward}
-use Rattle.tb_outlets.proofs.Sides.{number_below}
+use Rattle.tb_outlets.proofs.MeshCycles.{begins_way, is_cycle, none_flows, on_one, one_cycle, outward}
+use Rattle.tb_outlets.proofs.Sides.{faces_apart, number_below}
 use Rattle.tb_outlets.proofs.Trees.{tree}
 use Rattle.tb_cycles.specs.Entries.{IsEntry, IsStart, entering_flow}
 use Rattle.tb_cycles.proofs.Entering.{root_has_none}
@@ -189,3 +191,72 @@ end_put_on n marks sides c s t old now next d found long last made put m same le
     end_put m marks sides leads t (entering_flow m c s) z old now next d (put m same leads f z entry cycle)
     (subst (λ (k : Counts). IsLast k marks sides d) same last) (outlet_within n m marks sides d now same leads found long)
     (made ∙ ap (λ (k : Counts). slice_set now (face_of k d (side_at sides d)) (flow now (face_of k d (side_at sides d)) +ℤ out (side_at sides d) *ℤ t)) same)
+
+-- ---- the whole cycle
+
+-- no outlet is the face where the cycle enters
+no_entry_face : (m : Mesh) (marks : List Mark) (sides : List Side) → LeadOut m marks sides → (f c : ℕ) (s : Side) → IsEntry m f c s → (d : ℕ) → IsSolidAt m d →
+    face_of m.cells d (side_at sides d) ≢ face_of m.cells c s
+no_entry_face m marks sides leads f c s entry d here same =
+    let one = on_one m c d (side_at sides d) s entry.solid here entry.surface same in
+    no_outlet m marks sides leads f c s entry
+    (sym (faces_apart m.cells (cell_place m.cells c) (side_at sides c) s entry.solid.1.0 (ap (λ (x : ℕ). face_of m.cells x (side_at sides x)) (sym one) ∙ same)))
+
+pub still_within : (n : Counts) (marks : List Mark) (sides : List Side) (c : ℕ) (s : Side) (old now : List ℤ) (v : ℤ) → IsStart n marks sides c s →
+    IsWithinLimits old → length old ≡ face_count n → now ≡ slice_set old (face_of n c s) v → (d : ℕ) → 0 < distance_at marks d →
+    unsigned_abs (flow now (face_of n d (side_at sides d))) ≤ 10 ^ 12
+still_within n marks sides c s old now v start limits long made d found =
+    let m = start.mesh in
+    let here = start.leads.found d found in
+    let k = face_of n d (side_at sides d) in
+    let apart : k ≢ face_of n c s =
+    subst (λ (j : Counts). face_of j d (side_at sides d) ≢ face_of j c s) (sym start.counts) (no_entry_face m marks sides start.leads start.face c s start.entry d here) in
+    let below : k < face_count n =
+    subst (λ (j : Counts). face_of j d (side_at sides d) < face_count j) (sym start.counts) (number_below m.cells (cell_place m.cells d) (side_at sides d) here.1.0) in
+    subst (λ (x : ℤ). unsigned_abs x ≤ 10 ^ 12) (sym (ap (λ (l : List ℤ). flow l k) made ∙ get_or-set_other old (face_of n c s) k v (pos 0) apart))
+    (limits k (pos 0) (omega arith))
+
+opposite_times : (o t : ℤ) → o *ℤ neg_ℤ t ≡ t *ℤ neg_ℤ o
+opposite_times o t = by_reading {atoms = o ∷ t ∷ []} (search reading) (search reading) refl
+
+-- what flows after 1 was let in, times t
+entered : (m : Mesh) (c : ℕ) (s : Side) (old now : List ℤ) (t : ℤ) → let k = face_of m.cells c s in k < length old → k < face_count m.cells →
+    now ≡ slice_set old k (flow old k +ℤ out s *ℤ neg_ℤ t) → (g : ℕ) → flow now g ≡ flow old g +ℤ t *ℤ flow (entering_flow m c s) g
+entered m c s old now t within below made g =
+    let k = face_of m.cells c s in
+    let full = length-replicate (face_count m.cells) (pos 0) in
+    ⊎_elim
+    (λ (same : g ≡ k). subst (λ (x : ℕ). flow now x ≡ flow old x +ℤ t *ℤ flow (entering_flow m c s) x) (sym same)
+    (ap (λ (l : List ℤ). flow l k) made ∙ get_or-set_same old k (flow old k +ℤ out s *ℤ neg_ℤ t) (pos 0) within
+    ∙ ap (λ (x : ℤ). flow old k +ℤ x) (opposite_times (out s) t
+    ∙ ap (λ (x : ℤ). t *ℤ x) (sym (get_or-set_same (replicate (face_count m.cells) (pos 0)) k (neg_ℤ (out s)) (pos 0) (omega (arith, below, full)))))))
+    (λ (other : g ≢ k).
+    ap (λ (l : List ℤ). flow l g) made ∙ get_or-set_other old k g (flow old k +ℤ out s *ℤ neg_ℤ t) (pos 0) other
+    ∙ nothing_more (flow old g) t (flow (entering_flow m c s) g)
+    (get_or-set_other (replicate (face_count m.cells) (pos 0)) k g (neg_ℤ (out s)) (pos 0) other ∙ none_flows (face_count m.cells) g))
+    (cases_eq g k)
+  where
+    nothing_more : (o t e : ℤ) → e ≡ pos 0 → o ≡ o +ℤ t *ℤ e
+    nothing_more o t e none = omega (arith, ints, times_nothing t e none)
+
+both_put : (w e z n o : ℤ) → w +ℤ e ≡ n +ℤ z → n ≡ o +ℤ e → w ≡ o +ℤ z
+both_put w e z n o first second = omega (arith, ints, first, second)
+
+pub cycle_added : (n : Counts) (m : Mesh) (marks : List Mark) (sides : List Side) (f c : ℕ) (s : Side) (old now new : List ℤ) (t : ℤ) (z : List ℤ) → n ≡ m.cells →
+    LeadOut m marks sides → IsEntry m f c s → length old ≡ face_count n → now ≡ slice_set old (face_of n c s) (flow old (face_of n c s) +ℤ out s *ℤ neg_ℤ t) →
+    ((g : ℕ) → flow new g +ℤ t *ℤ flow (entering_flow m c s) g ≡ flow now g +ℤ t *ℤ flow z g) → (g : ℕ) → flow new g ≡ flow old g +ℤ t *ℤ flow z g
+cycle_added n m marks sides f c s old now new t z same leads entry long made put g =
+    let k = face_of m.cells c s in
+    let below = number_below m.cells (cell_place m.cells c) s entry.solid.1.0 in
+    let count = ap face_count same in
+    both_put (flow new g) (t *ℤ flow (entering_flow m c s) g) (t *ℤ flow z g) (flow now g) (flow old g) (put g)
+    (entered m c s old now t (omega (arith, below, count, long)) below
+    (made ∙ ap (λ (j : Counts). slice_set old (face_of j c s) (flow old (face_of j c s) +ℤ out s *ℤ neg_ℤ t)) same) g)
+
+pub entry_within : (n : Counts) (marks : List Mark) (sides : List Side) (c : ℕ) (s : Side) (old : List ℤ) → IsStart n marks sides c s → IsWithinLimits old →
+    length old ≡ face_count n → unsigned_abs (flow old (face_of n c s)) ≤ 10 ^ 12
+entry_within n marks sides c s old start limits long =
+    let m = start.mesh in
+    let below : face_of n c s < face_count n =
+    subst (λ (j : Counts). face_of j c s < face_count j) (sym start.counts) (number_below m.cells (cell_place m.cells c) s start.entry.solid.1.0) in
+    limits (face_of n c s) (pos 0) (omega arith)

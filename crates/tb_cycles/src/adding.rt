@@ -1,5 +1,5 @@
 // Adding a multiple of a cycle to a flux.
-ghost use Rattle.std.specs.Prelude.{◌≡◌, ◌+◌, ◌*◌, ◌<◌, ◌≤◌, ◌^◌, ℕ, List, ℤ, length, slice_set, unsigned_abs, ◌+ℤ◌, ◌-ℤ◌, ◌*ℤ◌};
+ghost use Rattle.std.specs.Prelude.{◌≡◌, ◌+◌, ◌*◌, ◌<◌, ◌≤◌, ◌^◌, ℕ, List, ℤ, length, slice_set, unsigned_abs, neg_ℤ, ◌+ℤ◌, ◌-ℤ◌, ◌*ℤ◌};
 ghost use Rattle.tb_places.specs.Places.{IsCell, cell_count, face_count};
 ghost use Rattle.tb_grid.specs.Views.{along_axes};
 ghost use Rattle.tb_model.specs.Mesh.{Mesh};
@@ -79,4 +79,35 @@ fn put_outward(
         cell = next;
     }
     put(counts, flows, cell, sides[cell.0 as usize], more);
+}
+
+// The same the other way.
+fn turned(more: i64) -> i64
+    requires { unsigned_abs more ≤ 2 * 10 ^ 12 }
+    ensures value { result ≡ neg_ℤ more }
+    ensures size { unsigned_abs result ≤ 2 * 10 ^ 12 }
+{
+    -more
+}
+
+/// Adds a multiple of a cycle to a flux, by one walk along the outlets. It takes no memory.
+pub fn add_cycle(
+    counts: CellCounts,
+    marks: &[Mark],
+    sides: &[Side],
+    flows: &mut [i64],
+    entry: CycleEntry,
+    multiple: i64,
+)
+    requires start { IsStart (along_axes counts) marks.now sides.now entry.cell.0 entry.side }
+    requires whole { length flows.old ≡ face_count (along_axes counts) }
+    requires limits { IsWithinLimits flows.old }
+    requires multiple { unsigned_abs multiple ≤ 2 * 10 ^ 12 }
+    ensures whole { length flows.new ≡ face_count (along_axes counts) }
+    ensures added { (m : Mesh) → along_axes counts ≡ m.cells → LeadOut m marks.now sides.now → (f : ℕ) (z : List ℤ)
+        → IsEntry m f entry.cell.0 entry.side → IsCycle m entry.cell.0 entry.side z → (g : ℕ)
+        → flow flows.new g ≡ flow flows.old g +ℤ multiple *ℤ flow z g }
+{
+    put(counts, flows, entry.cell, entry.side, turned(multiple));
+    put_outward(counts, marks, sides, flows, entry, multiple);
 }

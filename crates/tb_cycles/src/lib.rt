@@ -10,5 +10,6 @@ pub mod laws;
 mod pulls;
 mod way;
 
+pub use adding::add_cycle;
 pub use cycle::{CycleEntry, cycle_entry, cycle_pull};
 pub use pulls::FacePull;
