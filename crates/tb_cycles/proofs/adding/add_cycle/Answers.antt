@@ -1,4 +1,4 @@
-use Rattle.std.proofs.Common.{◌≡◌, ℕ, List, rules, ap, subst, ◌∙◌, of_z, to_z}
+use Rattle.std.proofs.Common.{◌≡◌, ℕ, rules, ap, subst, ◌∙◌, of_z, to_z}
 use Rattle.std.specs.Prelude.{ℤ, ◌+ℤ◌, ◌*ℤ◌, neg_ℤ, slice_set}
 use mir.Syntax.{w64}
 use Rattle.tb_grid.specs.Views.{along_axes}

@@ -1,11 +1,8 @@
-use Rattle.std.proofs.Common.{◌≡◌, ◌<◌, ◌≤◌, List, arith, rules, sym, ap, subst, ◌∙◌, of_z, to_z}
-use Rattle.std.specs.Prelude.{ℤ, ◌+ℤ◌, ◌*ℤ◌, slice_set}
+use Rattle.std.proofs.Common.{◌≡◌, arith, rules, subst, ◌∙◌, of_z, to_z}
+use Rattle.std.specs.Prelude.{ℤ, ◌+ℤ◌, ◌*ℤ◌}
 use mir.Syntax.{w64}
 use Rattle.tb_grid.specs.Views.{along_axes}
-use Rattle.tb_outlets.specs.Balancing.{flow, side_at}
-use Rattle.tb_outlets.specs.Cycles.{out}
-use Rattle.tb_outlets.specs.Searching.{distance_at}
-use Rattle.tb_outlets.specs.Sides.{face_of}
+use Rattle.tb_outlets.specs.Balancing.{flow}
 use Rattle.tb_cycles.proofs.Outward.{next_found, some_distance}
 use Rattle.tb_cycles.specs.Entries.{entering_flow}
 use Rattle.tb_cycles.proofs.Putting.{end_put_on, nothing_put, step_put_on, within_put}
