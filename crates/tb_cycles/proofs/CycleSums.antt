@@ -3,8 +3,8 @@ use Rattle.std.proofs.Common.{◌≡◌, ◌≢◌, ℕ, zero, suc, ◌<◌, ◌
 use Rattle.std.specs.Prelude.{ℤ, pos, neg_ℤ, ◌+ℤ◌, ◌*ℤ◌, slice_set}
 use Rattle.std.proofs.lemmas.Int.{ints}
 use Rattle.tb_math.specs.Integers.{zero-mul}
-use Rattle.std.proofs.lemmas.Bool.{cases_lt}
-use Rattle.std.proofs.lemmas.List.{length-replicate}
+use Rattle.std.proofs.lemmas.Bool.{cases_eq, cases_lt}
+use Rattle.std.proofs.lemmas.List.{ext_get_or, length-replicate}
 use Rattle.std.proofs.Math.ListN.{length-set, replicate}
 use Rattle.tb_math.specs.Sums.{total_ℤ}
 use Rattle.tb_places.specs.Inverse.{cell_place}
@@ -29,7 +29,7 @@ use Rattle.tb_outlets.specs.Balancing.{side_at}
 use Rattle.tb_outlets.specs.Searching.{distance_at}
 use Rattle.tb_outlets.proofs.MeshCycles.{outward}
 use Rattle.tb_cycles.specs.Entries.{IsEntry}
-use Rattle.tb_cycles.specs.Ways.{LeadOut, sum_over, way_sum}
+use Rattle.tb_cycles.specs.Ways.{IsAdditive, LeadOut, sum_over, way_sum}
 use Rattle.tb_cycles.proofs.Entering.{root_has_none}
 
 -- ---- sums over a list with one place changed
@@ -135,3 +135,47 @@ pulled n m marks sides pull f c s flows along entering sum same leads entry cycl
     ∙ ap (λ (x : ℤ). x -ℤ entering) (walked way.0 way.1)
     ∙ turn_sign (way_sum (face_of m.cells) outlet pull c way.0) entering s (pull (face_of m.cells c s)) (enters ∙ ap (λ (k : Counts). out s *ℤ pull (face_of k c s)) same)
     ∙ sym (cycle_total m outlet (distance_at marks) c s way.0 flows pull leads.outlets leads.distances entry.solid entry.surface other way.1 cycle)
+
+-- ---- what adds up over flows is a sum over faces
+
+-- the first values of a list, and nothing behind
+first_of : List ℤ → ℕ → ℕ → List ℤ
+first_of values n zero = replicate n (pos 0)
+first_of values n (suc k) = slice_set (first_of values n k) k (flow values k)
+
+first_long : (values : List ℤ) (n k : ℕ) → length (first_of values n k) ≡ n
+unfolding first_of
+first_long values n zero = length-replicate n (pos 0)
+first_long values n (suc k) = length-set (first_of values n k) k (flow values k) ∙ first_long values n k
+
+behind_none : (values : List ℤ) (n k f : ℕ) → k ≤ f → flow (first_of values n k) f ≡ pos 0
+unfolding first_of
+behind_none values n zero f behind = none_flows n f
+behind_none values n (suc k) f behind =
+    get_or-set_other (first_of values n k) k f (flow values k) (pos 0) (λ same. absurd (omega (arith, same))) ∙ behind_none values n k f (omega arith)
+
+first_same : (values : List ℤ) (n k f : ℕ) → k ≤ n → f < k → flow (first_of values n k) f ≡ flow values f
+unfolding first_of
+first_same values n zero f within below = absurd (omega arith)
+first_same values n (suc k) f within below =
+    let long = first_long values n k in
+    ⊎_elim
+    (λ (same : f ≡ k). ap (flow (slice_set (first_of values n k) k (flow values k))) same
+    ∙ get_or-set_same (first_of values n k) k (flow values k) (pos 0) (omega arith) ∙ ap (flow values) (sym same))
+    (λ (other : f ≢ k). get_or-set_other (first_of values n k) k f (flow values k) (pos 0) other ∙ first_same values n k f (omega arith) (omega arith))
+    (cases_eq f k)
+
+first_total : (n : ℕ) (S : List ℤ → ℤ) (pull : ℕ → ℤ) (values : List ℤ) → IsAdditive n S pull → (k : ℕ) → k ≤ n →
+    S (first_of values n k) ≡ total_ℤ k (told values pull)
+unfolding first_of
+first_total n S pull values is zero within = is.none
+first_total n S pull values is (suc k) within =
+    is.more (first_of values n k) k (flow values k) (first_long values n k) (omega arith) (behind_none values n k k (omega arith))
+    ∙ ap (λ (x : ℤ). x +ℤ told values pull k) (first_total n S pull values is k (omega arith))
+
+pub additive_total : (n : ℕ) (S : List ℤ → ℤ) (pull : ℕ → ℤ) (values : List ℤ) → IsAdditive n S pull → length values ≡ n →
+    S values ≡ total_ℤ n (told values pull)
+additive_total n S pull values is long =
+    let full = first_long values n n in
+    ap S (ext_get_or (pos 0) values (first_of values n n) (omega arith) (λ f below. sym (first_same values n n f (omega arith) (omega arith))))
+    ∙ first_total n S pull values is n (omega arith)

@@ -1,3 +1,4 @@
 pub mod Outward
 pub mod CycleSums
 pub mod Entering
+pub mod Putting

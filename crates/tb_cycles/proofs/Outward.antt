@@ -35,7 +35,7 @@ root_first m p s root = record {
 }
 
 -- each cell has a distance
-some_distance : (m : Mesh) (marks : List Mark) (sides : List Side) → LeadOut m marks sides → (c : ℕ) → IsSolidAt m c → 0 < distance_at marks c
+pub some_distance : (m : Mesh) (marks : List Mark) (sides : List Side) → LeadOut m marks sides → (c : ℕ) → IsSolidAt m c → 0 < distance_at marks c
 some_distance m marks sides leads c here = let long = (leads.distances c here).long in omega arith
 
 -- the cell beyond an outlet that isn't the root is the next on the way, and nearer

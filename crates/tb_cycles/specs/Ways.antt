@@ -1,5 +1,5 @@
 -- The way of outlets from a cell to the root of its linked set, and sums along it.
-use Rattle.std.specs.Prelude.{◌≡◌, ◌⊎◌, ℕ, ◌*◌, ◌<◌, ◌≤◌, ◌^◌, List, [], ◌∷◌, length, ℤ, ◌+ℤ◌, ◌*ℤ◌}
+use Rattle.std.specs.Prelude.{◌≡◌, ◌⊎◌, ℕ, ◌*◌, ◌<◌, ◌≤◌, ◌^◌, List, [], ◌∷◌, length, replicate, slice_set, ℤ, pos, ◌+ℤ◌, ◌*ℤ◌}
 use Rattle.tb_math.specs.Sums.{total_ℤ}
 use Rattle.tb_places.specs.Inverse.{cell_place}
 use Rattle.tb_places.specs.Places.{Counts, cell_count, face_count}
@@ -56,3 +56,10 @@ pub record IsLeft (m : Mesh) (outlet : ℕ → Side) (pull : ℕ → ℤ) (start
   pub rest : List ℕ
   pub outward : IsOutward (face_of m.cells) (IsSolidAt m) outlet c rest
   pub adds : total +ℤ way_sum (face_of m.cells) outlet pull c rest ≡ way_sum (face_of m.cells) outlet pull start whole
+
+-- A function of flows is additive, with what it tells of each face: it is 0 where nothing flows, and one flow more adds the
+-- flow times that.
+pub record IsAdditive (n : ℕ) (S : List ℤ → ℤ) (pull : ℕ → ℤ) : Type 0 where
+  pub none : S (replicate n (pos 0)) ≡ pos 0
+  pub more : (flows : List ℤ) (f : ℕ) (x : ℤ) → length flows ≡ n → f < n → flow flows f ≡ pos 0 →
+      S (slice_set flows f x) ≡ S flows +ℤ x *ℤ pull f

@@ -4,9 +4,12 @@
 //! every other face that isn't an outlet. [`cycle_pull`] sums over it what a function tells of each face.
 #![tactic(auto)]
 
+mod adding;
 mod cycle;
+pub mod laws;
 mod pulls;
 mod way;
 
+pub use adding::add_cycle;
 pub use cycle::{CycleEntry, cycle_entry, cycle_pull};
 pub use pulls::FacePull;

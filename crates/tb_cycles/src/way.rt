@@ -16,7 +16,12 @@ use tb_outlets::{Mark, Side};
 use tb_walk::PlacedCell;
 
 // The cell beyond the outlet of a cell, but of the root's cell.
-fn next_outward(counts: CellCounts, marks: &[Mark], sides: &[Side], cell: CellId) -> Option<CellId>
+pub(crate) fn next_outward(
+    counts: CellCounts,
+    marks: &[Mark],
+    sides: &[Side],
+    cell: CellId,
+) -> Option<CellId>
     requires cell { cell.0 < cell_count (along_axes counts) }
     requires marks { length marks.now ≡ cell_count (along_axes counts) }
     requires sides { length sides.now ≡ cell_count (along_axes counts) }

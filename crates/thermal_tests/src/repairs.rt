@@ -1,4 +1,4 @@
-// Repaired fluxes on a wall and on a corner. The flows were computed by a separate program, which solves the equations of
+// Repaired fluxes on a wall and on a corner, and the faces that have a cycle. The flows were computed by a separate program, which solves the equations of
 // balance for the flows through all outlets at once, in exact fractions.
 ghost use Rattle.std.specs.Prelude.{◌≤◌, length};
 
@@ -9,7 +9,7 @@ use std::alloc::Global;
 use std::test::Fail;
 use tb_flux::Flux;
 use tb_geometry::Body;
-use tb_grid::Grid;
+use tb_grid::{FaceId, Grid};
 use tb_repair::{RepairWork, repair};
 use tb_trees::OutletTree;
 
@@ -76,5 +76,29 @@ fn repair_past_the_limit(rt: HostRuntime) -> Result<(), Fail> {
     let (is_within, flows) = repaired(rt.alloc(), &corner, corner.base(), &given)?;
     assert!(rt; !is_within);
     assert_eq!(rt; flows.as_slice(), [0; 42].as_slice());
+    Ok(())
+}
+
+// The faces that have a cycle, on a grid that carries the body.
+fn cycle_faces(alloc: Global, body: &Body, grid: &Grid) -> Result<Vec<u32>, Fail> {
+    if !body.carries(grid) {
+        return Err(Fail::from("not carried"));
+    }
+    let tree = OutletTree::new(alloc, body, grid)?;
+    let mut faces = Vec::new(alloc);
+    for number in 0..tree.faces() {
+        if tree.has_cycle(FaceId(number)) {
+            faces.push(number)?;
+        }
+    }
+    Ok(faces)
+}
+
+// All surfaces but the root, face 14.
+#[test]
+fn cycles_of_a_corner(rt: HostRuntime) -> Result<(), Fail> {
+    let corner = body(rt.alloc(), CORNER)?;
+    let faces = cycle_faces(rt.alloc(), &corner, corner.base())?;
+    assert_eq!(rt; faces.as_slice(), [18, 19, 25, 26, 29].as_slice());
     Ok(())
 }
