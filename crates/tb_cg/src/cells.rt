@@ -89,9 +89,11 @@ impl Cells<'_> {
         let area = self.area(axis, place);
         let (low, high) = (self.width(axis, place), self.width(axis, above));
         match (self.filling(place)?, self.filling(above)?) {
-            (Filling::Solid { lambda: first }, Filling::Solid { lambda: second }) => Some(Link::Inner {
-                conductance: Ratio::between(area, low, first, high, second),
-            }),
+            (Filling::Solid { lambda: first }, Filling::Solid { lambda: second }) => Some(
+                Link::Inner {
+                    conductance: Ratio::between(area, low, first, high, second),
+                },
+            ),
             (Filling::Solid { lambda }, Filling::Air { rs, is_warm }) => Some(Link::Surface {
                 conductance: Ratio::through_surface(area, low, lambda, rs),
                 film: Ratio::film(area, rs),

@@ -32,7 +32,9 @@ fn level(is_warm: bool) -> i64
 // The flow from a temperature to another through a conductance that was scaled, in nW, rounded.
 fn flow(conductance: Coupling, from: i64, to: i64, scale: i32) -> i64 {
     let difference = i128::from(from) - i128::from(to);
-    let down = u32::try_from(scale.saturating_sub(SOLUTION_EXPONENT)).unwrap_or(0).min(120);
+    let down = u32::try_from(scale.saturating_sub(SOLUTION_EXPONENT))
+        .unwrap_or(0)
+        .min(120);
     let half = (1i128 << down) / 2;
     let whole = i128::from(conductance.value())
         .saturating_mul(difference)
@@ -55,7 +57,14 @@ fn flow_at(
     let high = temperature(temperatures, points.at(next(axis, place)));
     match cells.link(axis, place) {
         Some(Link::Inner { conductance }) => flow(conductance.scaled(scale), low, high, scale),
-        Some(Link::Surface { conductance, is_warm, low_is_air, .. }) => {
+        Some(
+            Link::Surface {
+                conductance,
+                is_warm,
+                low_is_air,
+                ..
+            },
+        ) => {
             let conductance = conductance.scaled(scale);
             let environment = level(is_warm);
             if low_is_air {

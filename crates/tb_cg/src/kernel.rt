@@ -189,24 +189,19 @@ fn products(cell: CellForm, reach: Reach, p: &[Entry]) -> Parts
 
 /// Adds what a cell gives to the product, over `2^shift`. None where an entry doesn't fit.
 #[inline(always)]
-pub fn add_cell(
-    cell: CellForm,
-    reach: Reach,
-    p: &[Entry],
-    shift: u8,
-    q: &mut [Entry],
-) -> Option<()>
+pub fn add_cell(cell: CellForm, reach: Reach, p: &[Entry], shift: u8, q: &mut [Entry]) -> Option<()>
     requires p { cell.place + reach.x + reach.y + reach.z < length p.now }
     requires q { length q.old ≡ length p.now }
 {
     let Reach { x, y, z } = reach;
     let at = cell.place as usize;
-    let Parts {
-        x: u,
-        y: v,
-        z: w,
-    } = products(cell, reach, p);
-    add(q, at, sum(u.a.negative(), v.a.negative(), w.a.negative()), shift)?;
+    let Parts { x: u, y: v, z: w } = products(cell, reach, p);
+    add(
+        q,
+        at,
+        sum(u.a.negative(), v.a.negative(), w.a.negative()),
+        shift,
+    )?;
     add(q, at + x, sum(u.a, v.b.negative(), w.b.negative()), shift)?;
     add(q, at + y, sum(u.b.negative(), v.a, w.c.negative()), shift)?;
     add(q, at + x + y, sum(u.b, v.b, w.d.negative()), shift)?;
@@ -229,13 +224,7 @@ pub struct FaceForm {
 /// Adds what a surface gives to the product, over `2^shift`, where its environment has a level. None where an entry
 /// doesn't fit.
 #[inline(always)]
-pub fn add_face(
-    face: FaceForm,
-    level: Entry,
-    p: &[Entry],
-    shift: u8,
-    q: &mut [Entry],
-) -> Option<()>
+pub fn add_face(face: FaceForm, level: Entry, p: &[Entry], shift: u8, q: &mut [Entry]) -> Option<()>
     requires p { face.place + face.second + face.third < length p.now }
     requires q { length q.old ≡ length p.now }
     requires few { length p.now ≤ 2 ^ 21 }

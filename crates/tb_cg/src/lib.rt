@@ -11,6 +11,7 @@
 #![tactic(auto)]
 
 mod cells;
+mod field;
 mod flows;
 mod form;
 mod kernel;
@@ -23,8 +24,9 @@ mod system;
 mod tests;
 
 pub use cells::{Cells, Filling};
+pub use field::{Derivative, FIELD_EXPONENT, MOST_TEMPERATURE, add_found, begin_at};
 pub use flows::{MOST_FLOW, face_flows};
 pub use form::Form;
 pub use points::Points;
-pub use start::{FIELD_EXPONENT, MOST_TEMPERATURE, start_field};
+pub use start::start_field;
 pub use system::{RIGHT_SIDE_EXPONENT, couple_cells};

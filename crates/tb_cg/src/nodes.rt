@@ -73,12 +73,7 @@ impl Form {
             face.second as usize,
             face.third as usize,
         );
-        couple_four(
-            matrix,
-            nodes,
-            Neighbour::Surroundings,
-            lumped(face.weight),
-        )
+        couple_four(matrix, nodes, Neighbour::Surroundings, lumped(face.weight))
     }
 
     /// Makes the matrix that couples the nodes along the edges of the cells, and with the environments at the corners of the

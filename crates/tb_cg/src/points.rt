@@ -28,15 +28,30 @@ impl Points {
         if x >= y && x >= z {
             let layout = Layout::new(y, z, x)?;
             let [first, second, last] = strides(layout);
-            Some(Points { layout, x: last, y: first, z: second })
+            Some(Points {
+                layout,
+                x: last,
+                y: first,
+                z: second,
+            })
         } else if y >= z {
             let layout = Layout::new(x, z, y)?;
             let [first, second, last] = strides(layout);
-            Some(Points { layout, x: first, y: last, z: second })
+            Some(Points {
+                layout,
+                x: first,
+                y: last,
+                z: second,
+            })
         } else {
             let layout = Layout::new(x, y, z)?;
             let [first, second, last] = strides(layout);
-            Some(Points { layout, x: first, y: second, z: last })
+            Some(Points {
+                layout,
+                x: first,
+                y: second,
+                z: last,
+            })
         }
     }
 

@@ -65,9 +65,7 @@ impl Ratio {
     pub fn scaled(self, scale: i32) -> Coupling {
         let room = self.over.leading_zeros().min(127);
         let up = u32::try_from(scale).unwrap_or(0).min(room);
-        let down = u32::try_from(scale.saturating_neg())
-            .unwrap_or(0)
-            .min(127);
+        let down = u32::try_from(scale.saturating_neg()).unwrap_or(0).min(127);
         let quotient = (self.over << up).checked_div(self.under).unwrap_or(0) >> down;
         let value = i64::try_from(quotient)
             .unwrap_or(MOST_SCALED)

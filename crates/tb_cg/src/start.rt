@@ -2,15 +2,10 @@
 ghost use Rattle.std.specs.Prelude.{◌≡◌, ◌^◌, ◌≤◌, pos, ◌≤ℤ◌};
 
 use crate::cells::{AXES, Cells, Link};
+use crate::field::MOST_TEMPERATURE;
 use crate::points::Points;
 use tb_gradients::Entry;
 use tb_grid::{AxisName, NodeId, Place};
-
-/// The temperature 1, in 10⁻⁸ of the difference.
-pub const MOST_TEMPERATURE: i64 = 100_000_000;
-
-/// The exponent of a field in the solver: entries are temperatures in 10⁻⁸ of the difference, times 2⁻²⁰.
-pub const FIELD_EXPONENT: i32 = -20;
 
 // A mean so far: the sum of weights times temperatures, those times 2⁻³⁰, and the sum of the weights.
 #[derive(Clone, Copy)]
@@ -41,7 +36,9 @@ impl Mean {
         }
         let mean = self.sum / self.weights;
         let scaled = mean.saturating_mul(i128::from(MOST_TEMPERATURE)) >> 30;
-        i64::try_from(scaled).unwrap_or(0).clamp(0, MOST_TEMPERATURE)
+        i64::try_from(scaled)
+            .unwrap_or(0)
+            .clamp(0, MOST_TEMPERATURE)
     }
 }
 
@@ -76,12 +73,16 @@ fn opposite(cells: Cells, axis: AxisName, node: Place, cell: Place) -> u128 {
     }
 }
 
+// How many parts a weight has, so that the quotients of surfaces keep their digits.
+const PARTS: u128 = 1024;
+
 // The weight of a cell at a node: its conductivity over its volume, times the widths of all cells at the node.
 fn cell_weight(cells: Cells, node: Place, cell: Place, lambda: u32) -> u128 {
     let x = opposite(cells, AxisName::X, node, cell);
     let y = opposite(cells, AxisName::Y, node, cell);
     let z = opposite(cells, AxisName::Z, node, cell);
-    u128::from(lambda)
+    PARTS
+        .saturating_mul(u128::from(lambda))
         .saturating_mul(x.saturating_mul(y))
         .saturating_mul(z)
 }
@@ -113,7 +114,9 @@ fn with_cell(
     let Some(lambda) = cells.conductivity(cell) else {
         return mean;
     };
-    let temperature = temperatures.get(points.at(cell)).map_or(0, |entry| entry.value());
+    let temperature = temperatures
+        .get(points.at(cell))
+        .map_or(0, |entry| entry.value());
     mean.with(cell_weight(cells, node, cell, lambda), temperature)
 }
 
@@ -128,11 +131,13 @@ fn with_surface(cells: Cells, axis: AxisName, node: Place, cell: Place, mean: Me
         AxisName::Y => (AxisName::X, AxisName::Z),
         AxisName::Z => (AxisName::X, AxisName::Y),
     };
-    let along = u128::from(cells.width(axis, cell))
-        .saturating_mul(u128::from(cells.width(axis, node)));
-    let across = opposite(cells, second, node, cell)
-        .saturating_mul(opposite(cells, third, node, cell));
-    let weight = along.saturating_mul(across).saturating_mul(5_000);
+    let along = u128::from(cells.width(axis, cell)).saturating_mul(u128::from(cells.width(
+        axis, node,
+    )));
+    let across = opposite(cells, second, node, cell).saturating_mul(opposite(
+        cells, third, node, cell,
+    ));
+    let weight = along.saturating_mul(across).saturating_mul(5_000 * PARTS);
     let weight = weight.checked_div(film.under).unwrap_or(0);
     mean.with(weight, if is_warm { 1 << 50 } else { 0 })
 }

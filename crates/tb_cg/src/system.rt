@@ -52,7 +52,14 @@ fn couple_at(
             points.stride(axis).neighbour,
             conductance.scaled(scale),
         ),
-        Some(Link::Surface { conductance, is_warm, low_is_air, .. }) => {
+        Some(
+            Link::Surface {
+                conductance,
+                is_warm,
+                low_is_air,
+                ..
+            },
+        ) => {
             let at = points.at(if low_is_air { above } else { place });
             let coupling = conductance.scaled(scale);
             matrix.couple(at, Neighbour::Surroundings, coupling)?;
