@@ -1,5 +1,6 @@
 // A field in the solver: where a descent begins, and where it came.
-ghost use Rattle.std.specs.Prelude.{pos, ◌≤ℤ◌, ◌^◌};
+ghost use Rattle.std.specs.Prelude.{All};
+ghost use Rattle.tb_cg.specs.Limits.{IsTemperature};
 
 use crate::form::Form;
 use crate::points::Points;
@@ -47,22 +48,29 @@ pub fn begin_at(form: &Form, counts: CellCounts, field: &[i64], solver: &mut Sol
 
 // A temperature after a change in the solver's units: rounded, from 0 to 10⁸.
 fn changed(temperature: i64, change: Entry) -> i64
-    ensures least { pos 0 ≤ℤ result }
-    ensures most { result ≤ℤ pos (10 ^ 8) }
+    ensures { IsTemperature result }
 {
     let half = 1i64 << (FIELD_BITS - 1);
     let whole = change.value().saturating_add(half) >> FIELD_BITS;
     temperature.saturating_add(whole).clamp(0, MOST_TEMPERATURE)
 }
 
+// Changes a temperature where there is one.
+fn change_at(field: &mut [i64], node: usize, change: Entry)
+    ensures { All IsTemperature field.old → All IsTemperature field.new }
+{
+    if node < field.len() {
+        field[node] = changed(field[node], change);
+    }
+}
+
 /// Adds what the descent found to the field that it began at: the temperatures are rounded, and from 0 to 10⁸.
-pub fn add_found(points: Points, counts: CellCounts, found: &[Entry], field: &mut [i64]) {
+pub fn add_found(points: Points, counts: CellCounts, found: &[Entry], field: &mut [i64])
+    ensures { All IsTemperature field.old → All IsTemperature field.new }
+{
     for number in 0..counts.nodes() {
         let at = points.at(counts.node_place(NodeId(number)));
         let change = found.get(at).copied().unwrap_or(Entry::ZERO);
-        let node = number as usize;
-        if node < field.len() {
-            field[node] = changed(field[node], change);
-        }
+        change_at(field, number as usize, change);
     }
 }

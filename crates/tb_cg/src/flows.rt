@@ -1,5 +1,8 @@
 // The flows of the temperatures in the middles of the cells.
-ghost use Rattle.std.specs.Prelude.{◌≡◌, ◌^◌, ◌≤◌, unsigned_abs};
+ghost use Rattle.std.specs.Prelude.{◌^◌, ◌≤◌, All, unsigned_abs};
+ghost use Rattle.tb_cg.specs.Limits.{IsFlow};
+ghost use Rattle.tb_places.specs.Places.{IsCell};
+ghost use Rattle.tb_grid.specs.Views.{along_axes};
 
 use crate::cells::{AXES, Cells, Link, next};
 use crate::points::Points;
@@ -30,7 +33,9 @@ fn level(is_warm: bool) -> i64
 }
 
 // The flow from a temperature to another through a conductance that was scaled, in nW, rounded.
-fn flow(conductance: Coupling, from: i64, to: i64, scale: i32) -> i64 {
+fn flow(conductance: Coupling, from: i64, to: i64, scale: i32) -> i64
+    ensures { IsFlow result }
+{
     let difference = i128::from(from) - i128::from(to);
     let down = u32::try_from(scale.saturating_sub(SOLUTION_EXPONENT))
         .unwrap_or(0)
@@ -40,8 +45,20 @@ fn flow(conductance: Coupling, from: i64, to: i64, scale: i32) -> i64 {
         .saturating_mul(difference)
         .saturating_mul(10)
         .saturating_add(half);
-    let most = i128::from(MOST_FLOW);
-    i64::try_from((whole >> down).clamp(-most, most)).unwrap_or(0)
+    within(i64::try_from(whole >> down).unwrap_or(if whole < 0 { i64::MIN } else { i64::MAX }))
+}
+
+// The nearest flow within the limits.
+fn within(flow: i64) -> i64
+    ensures { IsFlow result }
+{
+    if flow > MOST_FLOW {
+        MOST_FLOW
+    } else if flow < -MOST_FLOW {
+        -MOST_FLOW
+    } else {
+        flow
+    }
 }
 
 // The flow from a cell to the next one along an axis.
@@ -52,7 +69,9 @@ fn flow_at(
     place: Place,
     scale: i32,
     temperatures: &[Entry],
-) -> i64 {
+) -> i64
+    ensures { IsFlow result }
+{
     let low = temperature(temperatures, points.at(place));
     let high = temperature(temperatures, points.at(next(axis, place)));
     match cells.link(axis, place) {
@@ -78,7 +97,10 @@ fn flow_at(
 }
 
 // Sets a value where there is one.
-fn set(values: &mut [i64], at: usize, value: i64) {
+fn set(values: &mut [i64], at: usize, value: i64)
+    requires { IsFlow value }
+    ensures { All IsFlow values.old → All IsFlow values.new }
+{
     if at < values.len() {
         values[at] = value;
     }
@@ -86,21 +108,38 @@ fn set(values: &mut [i64], at: usize, value: i64) {
 
 /// The flows of these temperatures through the faces, in the index order of faces, in nW per unit difference, positive in
 /// the direction of the face's axis: rounded, and within 10¹² in either direction. Temperatures are times 2⁻⁵⁰, at the
-/// places of the cells. The scale is that of [`couple_cells`](crate::couple_cells).
+/// places of the cells. The scale is that of [`couple_cells`](crate::couple_cells). Where a face has no cell below it, the list
+/// keeps what it had: begin with zeros.
 pub fn face_flows(
     cells: Cells,
     points: Points,
     temperatures: &[Entry],
     scale: i32,
     flows: &mut [i64],
-) {
-    flows.fill(0);
+)
+    ensures { All IsFlow flows.old → All IsFlow flows.new }
+{
     for number in 0..cells.counts.cells() {
         let place = cells.counts.cell_place(CellId(number));
-        for axis in AXES {
-            let face = cells.counts.high_face(axis, place);
-            let value = flow_at(cells, points, axis, place, scale, temperatures);
-            set(flows, face.0 as usize, value);
-        }
+        face_flows_at(cells, points, temperatures, scale, place, flows);
+    }
+}
+
+// The flows through the high faces of a cell.
+fn face_flows_at(
+    cells: Cells,
+    points: Points,
+    temperatures: &[Entry],
+    scale: i32,
+    place: Place,
+    flows: &mut [i64],
+)
+    requires { IsCell (along_axes cells.counts) place }
+    ensures { All IsFlow flows.old → All IsFlow flows.new }
+{
+    for axis in AXES {
+        let face = cells.counts.high_face(axis, place);
+        let value = flow_at(cells, points, axis, place, scale, temperatures);
+        set(flows, face.0 as usize, value);
     }
 }

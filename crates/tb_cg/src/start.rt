@@ -1,5 +1,6 @@
 // The field that a solution of the cells' system begins with.
-ghost use Rattle.std.specs.Prelude.{◌≡◌, ◌^◌, ◌≤◌, pos, ◌≤ℤ◌};
+ghost use Rattle.std.specs.Prelude.{All};
+ghost use Rattle.tb_cg.specs.Limits.{IsTemperature};
 
 use crate::cells::{AXES, Cells, Link};
 use crate::field::MOST_TEMPERATURE;
@@ -28,8 +29,7 @@ impl Mean {
 
     // The mean in 10⁻⁸ of the difference, from 0 to 10⁸; 0 where there is no weight.
     fn value(self) -> i64
-        ensures least { pos 0 ≤ℤ result }
-        ensures most { result ≤ℤ pos (10 ^ 8) }
+        ensures { IsTemperature result }
     {
         if self.weights <= 0 {
             return 0;
@@ -144,8 +144,7 @@ fn with_surface(cells: Cells, axis: AxisName, node: Place, cell: Place, mean: Me
 
 // The temperature of a node: the mean of the cells and the environments that touch it.
 fn node_temperature(cells: Cells, points: Points, temperatures: &[Entry], node: Place) -> i64
-    ensures least { pos 0 ≤ℤ result }
-    ensures most { result ≤ℤ pos (10 ^ 8) }
+    ensures { IsTemperature result }
 {
     let mut mean = Mean { sum: 0, weights: 0 };
     for corner in 0..8 {
@@ -169,7 +168,10 @@ fn with_surfaces(cells: Cells, node: Place, cell: Place, mean: Mean) -> Mean {
 }
 
 // Sets a value where there is one.
-fn set(values: &mut [i64], at: usize, value: i64) {
+fn set(values: &mut [i64], at: usize, value: i64)
+    requires { IsTemperature value }
+    ensures { All IsTemperature values.old → All IsTemperature values.new }
+{
     if at < values.len() {
         values[at] = value;
     }
@@ -178,7 +180,9 @@ fn set(values: &mut [i64], at: usize, value: i64) {
 /// The temperatures of the nodes, in the index order of nodes, in 10⁻⁸ of the difference, from 0 to 10⁸, from those in the
 /// middles of the cells: at each node the mean of the cells that touch it, weighed by λ/(a·b·c), and of the environments,
 /// weighed by 1/(2·Rs·b·c). Temperatures of cells are times 2⁻⁵⁰, at the places of the cells.
-pub fn start_field(cells: Cells, points: Points, temperatures: &[Entry], field: &mut [i64]) {
+pub fn start_field(cells: Cells, points: Points, temperatures: &[Entry], field: &mut [i64])
+    ensures { All IsTemperature field.old → All IsTemperature field.new }
+{
     for number in 0..cells.counts.nodes() {
         let node = cells.counts.node_place(NodeId(number));
         let value = node_temperature(cells, points, temperatures, node);

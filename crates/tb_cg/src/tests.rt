@@ -4,7 +4,7 @@ use std::alloc::{AllocError, Global};
 use std::process::Abort;
 use std::test::Fail;
 use tb_gradients::{End, Entry, Matrix, Solver};
-use tb_grid::{Axis, Grid};
+use tb_grid::{Axis, Grid, Place};
 
 // Ten cells in a row, 20 mm wide each and 1 m by 1 m across: air at 1, eight of a solid with 0.8 W/(m·K), air at 0.
 const WALL: [Filling; 10] = [
@@ -51,116 +51,131 @@ fn cells_of(grid: &Grid) -> Cells<'static> {
     }
 }
 
+// The flows of the cells' temperatures, where they are found.
+fn solve_flows(
+    cells: Cells,
+    points: Points,
+    matrix: &mut Matrix,
+    solver: &mut Solver,
+    flows: &mut [i64],
+) -> Option<End> {
+    let scale = couple_cells(cells, points, matrix, solver)?;
+    matrix.finish(998)?;
+    let outcome = solver.solve(matrix, matrix, 100, 30);
+    face_flows(cells, points, solver.solution(), scale, flows);
+    Some(outcome.end)
+}
+
+fn flows_of(alloc: Global, cells: Cells) -> Result<Vec<i64>, AllocError> {
+    let mut flows = vec![in alloc; 0i64; cells.counts.faces() as usize]?;
+    if let Some(points) = Points::new(cells.counts) {
+        let mut matrix = Matrix::new(alloc, points.layout)?;
+        let mut solver = Solver::new(alloc, points.layout)?;
+        let _end = solve_flows(
+            cells,
+            points,
+            &mut matrix,
+            &mut solver,
+            flows.as_mut_slice(),
+        );
+    }
+    Ok(flows)
+}
+
 // Of resistances of 0.13, 8 times 0.025 and 0.04 in a row, 1/0.37 W flows through 1 m².
 #[test]
 fn the_flows_of_a_plane_wall_are_one(rt: HostRuntime) -> Result<(), Fail> {
     let grid = wall(rt.alloc())?;
-    let cells = cells_of(&grid);
-    let points = Points::new(cells.counts);
-    assert!(rt; points.is_some());
-    let Some(points) = points else {
-        return Ok(());
-    };
-    let mut matrix = Matrix::new(rt.alloc(), points.layout)?;
-    let mut solver = Solver::new(rt.alloc(), points.layout)?;
-    let scale = couple_cells(cells, points, &mut matrix, &mut solver);
-    assert!(rt; scale.is_some());
-    let finished = matrix.finish(998);
-    assert_eq!(rt; finished, Some(()));
-    let outcome = solver.solve(&matrix, &matrix, 100, 30);
-    assert_eq!(rt; outcome.end, End::Converged);
-    let mut flows = vec![in rt.alloc(); 0i64; grid.faces() as usize]?;
-    face_flows(
-        cells,
-        points,
-        solver.solution(),
-        scale.unwrap_or(0),
-        flows.as_mut_slice(),
-    );
+    let flows = flows_of(rt.alloc(), cells_of(&grid))?;
+    let flows = flows.as_slice();
     // The faces across x come after the ten across z.
     for i in 1..10usize {
-        let flow = flows.as_slice().get(10 + i).copied().unwrap_or(0);
+        let flow = flows.get(10 + i).copied().unwrap_or(0);
         assert!(rt; flow.abs_diff(2_702_702_703) < 3, "{i}: {flow}");
     }
-    assert_eq!(rt; flows.as_slice().get(10), Some(&0));
-    assert_eq!(rt; flows.as_slice().get(20), Some(&0));
+    assert_eq!(rt; flows.get(10), Some(&0));
+    assert_eq!(rt; flows.get(20), Some(&0));
     Ok(())
 }
 
 // The temperatures of the nodes in 10⁻⁸, from the inner surface to the outer one: 1 less 0.13 and then 0.025 more each, of
 // 0.37.
-fn expected(line: usize) -> i64 {
-    let line = i64::try_from(line).unwrap_or(0);
-    100_000_000i64.saturating_sub(
-        line.saturating_mul(25)
-            .saturating_add(105)
-            .saturating_mul(100_000_000)
-            / 370,
-    )
+const TEMPERATURES: [i64; 9] = [
+    64_864_865, 58_108_108, 51_351_351, 44_594_595, 37_837_838, 31_081_081, 24_324_324, 17_567_568,
+    10_810_811,
+];
+
+// Whether the nodes of the wall have their temperatures.
+fn is_linear(field: &[i64]) -> bool {
+    field.len() == 44
+        && (0..9usize).all(|i| field[i + 1].abs_diff(TEMPERATURES[i]) < 3)
+        && (0..9usize).all(|i| field[i + 34].abs_diff(TEMPERATURES[i]) < 3)
+}
+
+// Thirty steps down the energy, from the field.
+fn descend(
+    cells: Cells,
+    form: &Form,
+    matrix: &mut Matrix,
+    solver: &mut Solver,
+    field: &mut [i64],
+) -> Option<()> {
+    form.couple_nodes(matrix)?;
+    matrix.finish(980)?;
+    begin_at(form, cells.counts, field, solver)?;
+    for _ in 0..30 {
+        let _bits = solver.step(form, matrix, i32::MIN)?;
+    }
+    add_found(form.points, cells.counts, solver.solution(), field);
+    Some(())
+}
+
+fn field_of(alloc: Global, cells: Cells) -> Result<Vec<i64>, AllocError> {
+    let mut field = vec![in alloc; 0i64; cells.counts.nodes() as usize]?;
+    if let Some(points) = Points::new(cells.counts) {
+        let form = Form::new(alloc, cells, points)?;
+        let mut matrix = Matrix::new(alloc, points.layout)?;
+        let mut solver = Solver::new(alloc, points.layout)?;
+        let _done = descend(cells, &form, &mut matrix, &mut solver, field.as_mut_slice());
+    }
+    Ok(field)
 }
 
 #[test]
 fn the_field_of_a_plane_wall_is_linear(rt: HostRuntime) -> Result<(), Fail> {
     let grid = wall(rt.alloc())?;
-    let cells = cells_of(&grid);
-    let points = Points::new(cells.counts);
-    assert!(rt; points.is_some());
-    let Some(points) = points else {
-        return Ok(());
-    };
-    let form = Form::new(rt.alloc(), cells, points)?;
-    let mut matrix = Matrix::new(rt.alloc(), points.layout)?;
-    let mut solver = Solver::new(rt.alloc(), points.layout)?;
-    let mut field = vec![in rt.alloc(); 0i64; grid.nodes() as usize]?;
-    let coupled = form.couple_nodes(&mut matrix);
-    assert_eq!(rt; coupled, Some(()));
-    let finished = matrix.finish(980);
-    assert_eq!(rt; finished, Some(()));
-    let begun = begin_at(&form, cells.counts, field.as_slice(), &mut solver);
-    assert_eq!(rt; begun, Some(()));
-    for _ in 0..30 {
-        let bits = solver.step(&form, &matrix, i32::MIN);
-        assert!(rt; bits.is_some());
-    }
-    add_found(
-        points,
-        cells.counts,
-        solver.solution(),
-        field.as_mut_slice(),
-    );
-    for line in 1..10usize {
-        let found = field.as_slice().get(line).copied().unwrap_or(0);
-        assert!(rt; found.abs_diff(expected(line)) < 3, "{line}: {found}");
-    }
+    let field = field_of(rt.alloc(), cells_of(&grid))?;
+    assert!(rt; is_linear(field.as_slice()));
     Ok(())
+}
+
+// The temperatures in the middles of the cells: 0.0125 beyond their first lines.
+fn fill(points: Points, temperatures: &mut [Entry]) {
+    for i in 1..9u32 {
+        let at = points.at(Place { i, j: 0, k: 0 });
+        let below = i128::from(i) * 50 + 235;
+        let value = (1i128 << 50) - below * (1i128 << 50) / 740;
+        if at < temperatures.len() {
+            temperatures[at] = Entry::new(value).unwrap_or(Entry::ZERO);
+        }
+    }
+}
+
+fn start_of(alloc: Global, cells: Cells) -> Result<Vec<i64>, AllocError> {
+    let mut field = vec![in alloc; 0i64; cells.counts.nodes() as usize]?;
+    if let Some(points) = Points::new(cells.counts) {
+        let mut temperatures = vec![in alloc; Entry::ZERO; points.layout.places()]?;
+        fill(points, temperatures.as_mut_slice());
+        start_field(cells, points, temperatures.as_slice(), field.as_mut_slice());
+    }
+    Ok(field)
 }
 
 // Where the cells' temperatures are those of the wall, the field that begins with them is its field.
 #[test]
 fn a_field_starts_at_the_means_of_the_cells(rt: HostRuntime) -> Result<(), Fail> {
     let grid = wall(rt.alloc())?;
-    let cells = cells_of(&grid);
-    let points = Points::new(cells.counts);
-    assert!(rt; points.is_some());
-    let Some(points) = points else {
-        return Ok(());
-    };
-    let mut temperatures = vec![in rt.alloc(); Entry::ZERO; points.layout.places()]?;
-    let slice = temperatures.as_mut_slice();
-    for i in 1..9u32 {
-        let at = points.at(tb_grid::Place { i, j: 0, k: 0 });
-        // The middle of a cell lies 0.0125 beyond its first line.
-        let below = i128::from(i) * 50 + 235;
-        let value = (1i128 << 50) - below * (1i128 << 50) / 740;
-        if at < slice.len() {
-            slice[at] = Entry::new(value).unwrap_or(Entry::ZERO);
-        }
-    }
-    let mut field = vec![in rt.alloc(); 0i64; grid.nodes() as usize]?;
-    start_field(cells, points, temperatures.as_slice(), field.as_mut_slice());
-    for line in 1..10usize {
-        let found = field.as_slice().get(line).copied().unwrap_or(0);
-        assert!(rt; found.abs_diff(expected(line)) < 3, "{line}: {found}");
-    }
+    let field = start_of(rt.alloc(), cells_of(&grid))?;
+    assert!(rt; is_linear(field.as_slice()));
     Ok(())
 }
