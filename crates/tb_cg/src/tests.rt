@@ -1,4 +1,6 @@
 // A plane wall, whose temperatures and flows are known.
+ghost use Rattle.std.specs.Prelude.{◌≤◌, length};
+
 use super::*;
 use std::alloc::{AllocError, Global};
 use std::process::Abort;
@@ -30,7 +32,9 @@ const WIDTHS: [u32; 10] = [200; 10];
 
 const LINES: [u32; 11] = [0, 200, 400, 600, 800, 1000, 1200, 1400, 1600, 1800, 2000];
 
-fn axis(alloc: Global, lines: &[u32]) -> Result<Axis, Fail> {
+fn axis(alloc: Global, lines: &[u32]) -> Result<Axis, Fail>
+    requires { length lines.now ≤ 11 }
+{
     Ok(Axis::new(lines.to_vec(alloc)?)?)
 }
 
