@@ -12,10 +12,10 @@ use crate::sweep::{backward, forward};
 use crate::vector::Vector;
 use std::alloc::{AllocError, Global};
 
-/// A symmetric, positive matrix that vectors are multiplied by.
+/// What takes a vector to another: a symmetric, positive matrix, or the derivative of an energy.
 pub trait Operator {
-    /// Makes `q` the matrix times `p`, over `2^shift`, and gives a number with as many bits as its greatest entry. None
-    /// where an entry doesn't fit, or the lists have other lengths than the matrix.
+    /// Makes `q` what it makes of `p`, over `2^shift`, and gives a number with as many bits as the greatest entry. None
+    /// where an entry doesn't fit, or the lists have other lengths.
     fn multiply(&self, p: &[Entry], shift: u8, q: &mut [Entry]) -> Option<i64>;
 }
 
@@ -85,6 +85,7 @@ fn apply<A: Operator>(operator: &A, p: &Vector, q: &mut Vector) -> Option<()>
 {
     let mut exponent = q.settled();
     for _ in 0..10 {
+        exponent = exponent.max(p.exponent);
         let shift = u8::try_from(exponent.saturating_sub(p.exponent)).ok()?;
         let made = operator.multiply(p.entries.as_slice(), shift, q.entries.as_mut_slice());
         let Some(magnitude) = made else {
@@ -92,7 +93,7 @@ fn apply<A: Operator>(operator: &A, p: &Vector, q: &mut Vector) -> Option<()>
             continue;
         };
         let bits = bit_length(i128::from(magnitude));
-        if bits >= 40 {
+        if bits >= 40 || exponent == p.exponent {
             q.exponent = exponent;
             q.magnitude = magnitude;
             return Some(());
@@ -169,6 +170,31 @@ impl Solver {
         self.correction.clear(self.residual.exponent);
         self.image.clear(self.residual.exponent);
         self.curvature = Dyadic::ZERO;
+    }
+
+    /// Makes the field that a descent begins at zero, with an exponent for the entries that will be added.
+    pub fn clear_field(&mut self, exponent: i32)
+        ensures { self.new.layout ≡ self.old.layout }
+    {
+        self.direction.clear(exponent);
+    }
+
+    /// Adds to the field that a descent begins at. None, and nothing changes, where there is no such place or the sum
+    /// doesn't fit.
+    pub fn add_field(&mut self, at: usize, entry: Entry) -> Option<()>
+        ensures { self.new.layout ≡ self.old.layout }
+    {
+        self.direction.add(at, entry)
+    }
+
+    /// Makes the residual the negative derivative of an energy at the field that a descent begins at. The solution will be
+    /// what is to be added to it. None where a number doesn't fit.
+    pub fn descend<A: Operator>(&mut self, derivative: &A) -> Option<()>
+        ensures { self.new.layout ≡ self.old.layout }
+    {
+        self.image.clear(self.direction.exponent);
+        apply(derivative, &self.direction, &mut self.image)?;
+        self.residual.copy_negative(&self.image)
     }
 
     // Finds the next search direction: the correction without its part along the last one.

@@ -88,6 +88,21 @@ impl Vector {
         self.magnitude = other.magnitude;
     }
 
+    /// Becomes the negative of another vector.
+    pub fn copy_negative(&mut self, other: &Vector) -> Option<()>
+        requires { vec_len self.old.entries ≡ vec_len other.now.entries }
+        ensures { vec_len self.new.entries ≡ vec_len self.old.entries }
+    {
+        let multiplier = Multiplier::new(-1, 0)?;
+        self.clear(other.exponent);
+        self.magnitude = add_multiple(
+            self.entries.as_mut_slice(),
+            multiplier,
+            other.entries.as_slice(),
+        )?;
+        Some(())
+    }
+
     /// The scalar product.
     pub fn dot(&self, other: &Vector) -> Dyadic
         requires { vec_len self.now.entries ≡ vec_len other.now.entries }

@@ -1,0 +1,130 @@
+// The cells of a grid, and what two neighbours conduct.
+use crate::ratio::Ratio;
+use tb_grid::{AxisName, CellCounts, Place};
+
+/// What fills a cell: a solid with its thermal conductivity in 10⁻⁴ W/(m·K), or air with the resistance of its surfaces in
+/// 10⁻⁴ m²K/W, of an environment that is at 1 (warm) or at 0.
+#[derive(Clone, Copy, Debug, PartialEq, Eq)]
+pub enum Filling {
+    Solid { lambda: u32 },
+    Air { rs: u32, is_warm: bool },
+}
+
+/// The cells of a grid: their widths along each axis in 0.1 mm, and what fills them, in the index order of cells. A cell
+/// without a filling isn't coupled with others.
+#[derive(Clone, Copy)]
+pub struct Cells<'a> {
+    pub counts: CellCounts,
+    pub x: &'a [u32],
+    pub y: &'a [u32],
+    pub z: &'a [u32],
+    pub fillings: &'a [Filling],
+}
+
+/// What lies between a cell and the next one along an axis: the solids of both conduct, or one of them and its surface.
+#[derive(Clone, Copy)]
+pub enum Link {
+    Inner {
+        conductance: Ratio,
+    },
+    Surface {
+        conductance: Ratio,
+        // Of the surface alone.
+        film: Ratio,
+        is_warm: bool,
+        low_is_air: bool,
+    },
+}
+
+/// The three axes.
+pub const AXES: [AxisName; 3] = [AxisName::X, AxisName::Y, AxisName::Z];
+
+impl Cells<'_> {
+    /// The width of a cell along an axis.
+    pub fn width(self, axis: AxisName, place: Place) -> u64 {
+        let (widths, at) = match axis {
+            AxisName::X => (self.x, place.i),
+            AxisName::Y => (self.y, place.j),
+            AxisName::Z => (self.z, place.k),
+        };
+        match widths.get(at as usize) {
+            Some(width) => u64::from(*width),
+            None => 1,
+        }
+    }
+
+    /// The area of a cell's cross-section, in 10⁻⁸ m².
+    pub fn area(self, axis: AxisName, place: Place) -> u128 {
+        let (second, third) = match axis {
+            AxisName::X => (AxisName::Y, AxisName::Z),
+            AxisName::Y => (AxisName::X, AxisName::Z),
+            AxisName::Z => (AxisName::X, AxisName::Y),
+        };
+        u128::from(self.width(second, place)) * u128::from(self.width(third, place))
+    }
+
+    /// What fills the cell at a place, where there is one.
+    pub fn filling(self, place: Place) -> Option<Filling> {
+        let Place { i, j, k } = place;
+        let CellCounts { x, y, z, .. } = self.counts;
+        if i >= x || j >= y || k >= z {
+            return None;
+        }
+        let row = u64::from(j).saturating_add(u64::from(y).saturating_mul(u64::from(k)));
+        let number = u64::from(i).saturating_add(u64::from(x).saturating_mul(row));
+        self.fillings.get(number as usize).copied()
+    }
+
+    /// The conductivity of the solid at a place.
+    pub fn conductivity(self, place: Place) -> Option<u32> {
+        match self.filling(place)? {
+            Filling::Solid { lambda } => Some(lambda),
+            Filling::Air { .. } => None,
+        }
+    }
+
+    /// What lies between the cell at a place and the next one along an axis.
+    pub fn link(self, axis: AxisName, place: Place) -> Option<Link> {
+        let above = next(axis, place);
+        let area = self.area(axis, place);
+        let (low, high) = (self.width(axis, place), self.width(axis, above));
+        match (self.filling(place)?, self.filling(above)?) {
+            (Filling::Solid { lambda: first }, Filling::Solid { lambda: second }) => Some(
+                Link::Inner {
+                    conductance: Ratio::between(area, low, first, high, second),
+                },
+            ),
+            (Filling::Solid { lambda }, Filling::Air { rs, is_warm }) => Some(Link::Surface {
+                conductance: Ratio::through_surface(area, low, lambda, rs),
+                film: Ratio::film(area, rs),
+                is_warm,
+                low_is_air: false,
+            }),
+            (Filling::Air { rs, is_warm }, Filling::Solid { lambda }) => Some(Link::Surface {
+                conductance: Ratio::through_surface(area, high, lambda, rs),
+                film: Ratio::film(area, rs),
+                is_warm,
+                low_is_air: true,
+            }),
+            (Filling::Air { .. }, Filling::Air { .. }) => None,
+        }
+    }
+}
+
+/// The next place along an axis.
+pub fn next(axis: AxisName, place: Place) -> Place {
+    match axis {
+        AxisName::X => Place {
+            i: place.i.saturating_add(1),
+            ..place
+        },
+        AxisName::Y => Place {
+            j: place.j.saturating_add(1),
+            ..place
+        },
+        AxisName::Z => Place {
+            k: place.k.saturating_add(1),
+            ..place
+        },
+    }
+}

@@ -1,0 +1,76 @@
+// A field in the solver: where a descent begins, and where it came.
+ghost use Rattle.std.specs.Prelude.{All};
+ghost use Rattle.tb_cg.specs.Limits.{IsTemperature};
+
+use crate::form::Form;
+use crate::points::Points;
+use tb_gradients::{Entry, Operator, Solver};
+use tb_grid::{CellCounts, NodeId};
+
+/// The temperature 1, in 10⁻⁸ of the difference.
+pub const MOST_TEMPERATURE: i64 = 100_000_000;
+
+/// The exponent of a field in the solver: entries are temperatures in 10⁻⁸ of the difference, times 2⁻²⁰.
+pub const FIELD_EXPONENT: i32 = -20;
+
+const FIELD_BITS: u32 = 20;
+
+/// The derivative of the energy of a field, whose warm environments are at 1, in the solver's units.
+#[derive(Clone, Copy)]
+pub struct Derivative<'a> {
+    pub form: &'a Form,
+}
+
+// A temperature, in the solver's units.
+fn entry(temperature: i64) -> Entry {
+    Entry::new(i128::from(temperature) << FIELD_BITS).unwrap_or(Entry::ZERO)
+}
+
+impl Operator for Derivative<'_> {
+    fn multiply(&self, p: &[Entry], shift: u8, q: &mut [Entry]) -> Option<i64> {
+        self.form.derivative(p, entry(MOST_TEMPERATURE), shift, q)
+    }
+}
+
+/// Begins a descent at a field: node temperatures in the index order of nodes, in 10⁻⁸ of the difference. None where a
+/// number doesn't fit, or the solver has another layout than the form.
+pub fn begin_at(form: &Form, counts: CellCounts, field: &[i64], solver: &mut Solver) -> Option<()> {
+    solver.clear_field(FIELD_EXPONENT);
+    for number in 0..counts.nodes() {
+        let at = form.points.at(counts.node_place(NodeId(number)));
+        let temperature = field.get(number as usize).copied()?;
+        solver.add_field(at, entry(temperature))?;
+    }
+    solver.descend(&Derivative { form })?;
+    solver.start(FIELD_EXPONENT);
+    Some(())
+}
+
+// A temperature after a change in the solver's units: rounded, from 0 to 10⁸.
+fn changed(temperature: i64, change: Entry) -> i64
+    ensures { IsTemperature result }
+{
+    let half = 1i64 << (FIELD_BITS - 1);
+    let whole = change.value().saturating_add(half) >> FIELD_BITS;
+    temperature.saturating_add(whole).clamp(0, MOST_TEMPERATURE)
+}
+
+// Changes a temperature where there is one.
+fn change_at(field: &mut [i64], node: usize, change: Entry)
+    ensures { All IsTemperature field.old → All IsTemperature field.new }
+{
+    if node < field.len() {
+        field[node] = changed(field[node], change);
+    }
+}
+
+/// Adds what the descent found to the field that it began at: the temperatures are rounded, and from 0 to 10⁸.
+pub fn add_found(points: Points, counts: CellCounts, found: &[Entry], field: &mut [i64])
+    ensures { All IsTemperature field.old → All IsTemperature field.new }
+{
+    for number in 0..counts.nodes() {
+        let at = points.at(counts.node_place(NodeId(number)));
+        let change = found.get(at).copied().unwrap_or(Entry::ZERO);
+        change_at(field, number as usize, change);
+    }
+}
