@@ -1,5 +1,7 @@
 // What `check` tells of larger bundles: a strip whose loss grows with its rows up to the limit of a sum, and a wall between
 // three environments. The numbers were worked out by hand and by an independent program.
+ghost use Rattle.std.specs.Prelude.{◌<◌};
+
 use std::alloc::{AllocError, Global};
 use std::test::Fail;
 use tb_outside::{MemorySink, SteadySource};
