@@ -10,7 +10,8 @@ pub struct Stride {
 }
 
 /// The nodes of a grid in a list. A cell has the place of its lowest node, so that one layout serves both. The axis with
-/// the most nodes goes from layer to layer, so that layers are small.
+/// the most nodes goes from layer to layer, so that layers are small, and the one with the next most along rows, so that
+/// cells follow one another.
 #[derive(Clone, Copy, Debug)]
 pub struct Points {
     pub layout: Layout,
@@ -25,33 +26,28 @@ impl Points {
         let x = (counts.x as usize).saturating_add(1);
         let y = (counts.y as usize).saturating_add(1);
         let z = (counts.z as usize).saturating_add(1);
-        if x >= y && x >= z {
-            let layout = Layout::new(y, z, x)?;
-            let [first, second, last] = strides(layout);
-            Some(Points {
-                layout,
-                x: last,
-                y: first,
-                z: second,
-            })
+        if z >= x && z >= y {
+            if x >= y {
+                let (layout, x, y, z) = lay(x, y, z)?;
+                Some(Points { layout, x, y, z })
+            } else {
+                let (layout, y, x, z) = lay(y, x, z)?;
+                Some(Points { layout, x, y, z })
+            }
+        } else if y >= x {
+            if x >= z {
+                let (layout, x, z, y) = lay(x, z, y)?;
+                Some(Points { layout, x, y, z })
+            } else {
+                let (layout, z, x, y) = lay(z, x, y)?;
+                Some(Points { layout, x, y, z })
+            }
         } else if y >= z {
-            let layout = Layout::new(x, z, y)?;
-            let [first, second, last] = strides(layout);
-            Some(Points {
-                layout,
-                x: first,
-                y: last,
-                z: second,
-            })
+            let (layout, y, z, x) = lay(y, z, x)?;
+            Some(Points { layout, x, y, z })
         } else {
-            let layout = Layout::new(x, y, z)?;
-            let [first, second, last] = strides(layout);
-            Some(Points {
-                layout,
-                x: first,
-                y: second,
-                z: last,
-            })
+            let (layout, z, y, x) = lay(z, y, x)?;
+            Some(Points { layout, x, y, z })
         }
     }
 
@@ -77,20 +73,20 @@ impl Points {
     }
 }
 
-// The strides in a row, from row to row and from layer to layer.
-fn strides(layout: Layout) -> [Stride; 3] {
-    [
-        Stride {
-            places: 1,
-            neighbour: Neighbour::BeforeOnX,
-        },
-        Stride {
-            places: layout.row(),
-            neighbour: Neighbour::BeforeOnY,
-        },
-        Stride {
-            places: layout.layer(),
-            neighbour: Neighbour::BeforeOnZ,
-        },
-    ]
+// The layout of so many nodes in a row, rows in a layer and layers, and the strides along the three.
+fn lay(row: usize, rows: usize, layers: usize) -> Option<(Layout, Stride, Stride, Stride)> {
+    let layout = Layout::new(row, rows, layers)?;
+    let in_row = Stride {
+        places: 1,
+        neighbour: Neighbour::BeforeOnX,
+    };
+    let to_next_row = Stride {
+        places: layout.row(),
+        neighbour: Neighbour::BeforeOnY,
+    };
+    let to_next_layer = Stride {
+        places: layout.layer(),
+        neighbour: Neighbour::BeforeOnZ,
+    };
+    Some((layout, in_row, to_next_row, to_next_layer))
 }
