@@ -7,7 +7,7 @@ ghost use Rattle.tb_outlets.specs.Balancing.{IsWithinLimits};
 
 use crate::grids::axis;
 use crate::walls::{CORNER, WALL, body};
-use std::alloc::{AllocError, Global};
+use std::alloc::Global;
 use std::test::Fail;
 use tb_cycles::FacePull;
 use tb_flux::Flux;
@@ -156,7 +156,7 @@ fn with_cycle(tree: &OutletTree, flows: &mut [i64], face: FaceId, multiple: i64)
 }
 
 // The faces whose flows differ from those given of the corner, with their flows.
-fn changes(alloc: Global, flows: &[i64]) -> Result<Vec<(usize, i64)>, AllocError> {
+fn changes(alloc: Global, flows: &[i64]) -> Result<Vec<(usize, i64)>, Fail> {
     let mut changes = Vec::new(alloc);
     for (number, flow) in flows.iter().enumerate() {
         if GIVEN.get(number) != Some(flow) {
@@ -185,7 +185,7 @@ fn changes_by_cycle(
     }
     let tree = OutletTree::new(alloc, body, grid)?;
     with_cycle(&tree, flux.values_mut(), face, multiple);
-    Ok(changes(alloc, flux.values())?)
+    changes(alloc, flux.values())
 }
 
 // The cycle of face 29 leads over the outlet at 15 to the root at 14, that of 19 over the outlet at 28. Face 14 has none.
