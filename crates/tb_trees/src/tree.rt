@@ -1,5 +1,5 @@
 // The outlet tree of a body on a grid.
-ghost use Rattle.std.specs.Prelude.{◌≡◌, ◌↔◌, ◌+◌, ◌*◌, ◌<◌, ◌≤◌, ◌^◌, ℕ, List, ℤ, IfOk, IsTrue, MatchOption, length, unsigned_abs};
+ghost use Rattle.std.specs.Prelude.{◌≡◌, ◌↔◌, ◌+◌, ◌*◌, ◌<◌, ◌≤◌, ◌^◌, ℕ, List, ℤ, IfOk, IsTrue, MatchOption, length, unsigned_abs, ◌+ℤ◌, ◌*ℤ◌};
 ghost use Rattle.tb_detail.specs.Limits.{InLimits};
 ghost use Rattle.tb_grid.specs.Grid.{counts_of};
 ghost use Rattle.tb_geometry.specs.Faults.{IsAccepted};
@@ -11,7 +11,7 @@ use crate::memory::NoMemory;
 use std::alloc::{AllocError, Global};
 use std::marker::Model;
 use std::snapshot::Snapshot;
-use tb_cycles::{CycleEntry, FacePull, cycle_entry, cycle_pull};
+use tb_cycles::{CycleEntry, FacePull, add_cycle, cycle_entry, cycle_pull};
 use tb_geometry::Body;
 use tb_grid::{CellCounts, CellId, FaceId, Grid};
 use tb_outlets::{Tree, plant, repair_along};
@@ -67,7 +67,7 @@ impl Model for OutletTree {
 
 impl OutletTree {
     ghost use Rattle.tb_places.specs.Places.{cell_count, face_count};
-    ghost use Rattle.tb_outlets.specs.Balancing.{IsWithinLimits};
+    ghost use Rattle.tb_outlets.specs.Balancing.{IsWithinLimits, flow};
     ghost use Rattle.tb_outlets.specs.Outlets.{IsSolidAt};
     ghost use Rattle.tb_outlets.specs.Repair.{IsCycle, IsRepairAnswer, IsRepaired};
     ghost use Rattle.tb_cycles.specs.Ways.{most_pull, sum_over};
@@ -173,5 +173,26 @@ impl OutletTree {
             pulls,
             entry,
         )
+    }
+
+    /// Adds a multiple of a cycle to a flux, by one walk along the outlets. It takes no memory.
+    pub fn add_cycle(&self, flows: &mut [i64], entry: CycleEntry, multiple: i64)
+        requires entry { (f : ℕ) × IsEntry (mesh_of self.now) f entry.cell.0 entry.side }
+        requires whole { length flows.old ≡ face_count (counts_of self.now.grid) }
+        requires limits { IsWithinLimits flows.old }
+        requires multiple { unsigned_abs multiple ≤ 2 * 10 ^ 12 }
+        ensures whole { length flows.new ≡ face_count (counts_of self.now.grid) }
+        ensures added { (f : ℕ) (cycle : List ℤ) → IsEntry (mesh_of self.now) f entry.cell.0 entry.side
+            → IsCycle (mesh_of self.now) entry.cell.0 entry.side cycle → (g : ℕ)
+            → flow flows.new g ≡ flow flows.old g +ℤ multiple *ℤ flow cycle g }
+    {
+        add_cycle(
+            self.counts,
+            self.tree.marks.as_slice(),
+            self.tree.sides.as_slice(),
+            flows,
+            entry,
+            multiple,
+        );
     }
 }

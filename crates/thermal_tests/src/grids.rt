@@ -1,18 +1,17 @@
-// A body on a grid with lines between its base lines, compared with the plain program, which looks for the
-// box of each cell.
-ghost use Rattle.std.specs.Prelude.{◌≡◌, ◌<◌, ◌≤◌, IfOk, IsTrue, length};
-ghost use Rattle.tb_places.specs.Places.{IsCell, cell_count, face_count, place_at};
+// A body on a grid with lines between its base lines, compared with a plain reading: the boxes are looked through for
+// the one that holds the middle of a cell, and a face is of the kind that what lies on its two sides gives.
+ghost use Rattle.std.specs.Prelude.{◌<◌, ◌≤◌, IfOk, length};
+ghost use Rattle.tb_places.specs.Places.{cell_count, face_count};
 ghost use Rattle.tb_detail.specs.Limits.{InLimits};
 ghost use Rattle.tb_grid.specs.Grid.{counts_of};
-ghost use Rattle.tb_plain.specs.Plain.{IsFaceAt, IsPlain, mesh_of};
 ghost use Rattle.tb_geometry.specs.Grids.{CarriesBody};
 
-use std::alloc::{AllocError, Global};
+use std::alloc::Global;
 use std::test::Fail;
-use tb_detail::{Content, Detail};
+use tb_detail::{Content, Detail, Material, SpaceBox};
 use tb_geometry::{Body, Occupant};
-use tb_grid::{Axis, AxisName, CellId, FaceId, Grid, other_axes};
-use tb_plain::{Place, PlainGrid, Site};
+use tb_grid::{Axis, AxisName, CellId, FaceId, FacePlace, Grid, Place};
+use tb_model::FaceKind;
 use tb_text::read_detail;
 
 // A wall with a post in it, between the outside and two rooms, one above the other.
@@ -36,103 +35,130 @@ pub(crate) fn axis(alloc: Global, lines: &[u32]) -> Result<Axis, Fail>
     }
 }
 
-// How many cells stand along an axis of a plain grid.
-#[tactic(auto, unfolding(tb_plain::specs::Plain::mesh_of))]
-fn cells(plain: &PlainGrid, axis: AxisName) -> usize
-    ensures { result ≡ (mesh_of plain.now).cells axis }
-{
-    match axis {
-        AxisName::X => plain.x.len().saturating_sub(1),
-        AxisName::Y => plain.y.len().saturating_sub(1),
-        AxisName::Z => plain.z.len().saturating_sub(1),
+// Twice the middle between the lines n and n + 1, nothing past the last one.
+fn twice_middle(lines: &[u32], n: u32) -> Option<u64> {
+    let n = n as usize;
+    if n < lines.len() && n + 1 < lines.len() {
+        Some(u64::from(lines[n]) + u64::from(lines[n + 1]))
+    } else {
+        None
     }
 }
 
-fn is_cell(plain: &PlainGrid, place: Place) -> bool
-    ensures { IsTrue result → IsCell (mesh_of plain.now).cells (place_at place.i place.j place.k) }
-{
-    place.i < cells(plain, AxisName::X)
-        && place.j < cells(plain, AxisName::Y)
-        && place.k < cells(plain, AxisName::Z)
+// Whether a middle, of which twice is given, lies between two coordinates.
+fn is_between(low: u32, high: u32, twice: u64) -> bool {
+    2 * u64::from(low) < twice && twice < 2 * u64::from(high)
 }
 
-fn is_face(plain: &PlainGrid, site: Site) -> bool
-    ensures { IsTrue result → IsFaceAt (mesh_of plain.now).cells site }
-{
-    let (second, third) = other_axes(site.axis);
-    site.i <= cells(plain, site.axis)
-        && site.j < cells(plain, second)
-        && site.k < cells(plain, third)
+fn occupant_of(materials: &[Material], content: Content) -> Option<Occupant> {
+    match content {
+        Content::Solid { material } => match materials.get(usize::from(material)) {
+            Some(material) => Some(Occupant::Solid {
+                lambda: material.lambda,
+            }),
+            None => None,
+        },
+        Content::Air { environment, rs } => Some(Occupant::Air { environment, rs }),
+    }
 }
 
-fn is_filled_so(detail: &Detail, seen: Occupant, content: Option<Content>) -> bool {
-    match (seen, content) {
-        (Occupant::Solid { lambda }, Some(Content::Solid { material })) => {
-            match detail.materials.items.get(usize::from(material)) {
-                Some(material) => material.lambda == lambda,
-                None => false,
-            }
+// What the box holds that a point lies in, of whose coordinates twice is given.
+fn occupant_around(detail: &Detail, x: u64, y: u64, z: u64) -> Option<Occupant> {
+    for b in detail.boxes.items.as_slice() {
+        if is_between(b.span.x0, b.span.x1, x)
+            && is_between(b.span.y0, b.span.y1, y)
+            && is_between(b.span.z0, b.span.z1, z)
+        {
+            return occupant_of(detail.materials.items.as_slice(), b.content);
         }
-        (Occupant::Air { environment, rs }, Some(air)) => air == Content::Air { environment, rs },
-        _ => false,
+    }
+    None
+}
+
+// What fills the cell at a place of the finer grid, nothing where there is no cell.
+fn occupant_at(detail: &Detail, place: Place) -> Option<Occupant> {
+    let x = twice_middle(&X, place.i)?;
+    let y = twice_middle(&Y, place.j)?;
+    let z = twice_middle(&Z, place.k)?;
+    occupant_around(detail, x, y, z)
+}
+
+fn one_less(n: u32) -> Option<u32> {
+    if n == 0 { None } else { Some(n - 1) }
+}
+
+// The place one step down an axis.
+fn place_below(axis: AxisName, place: Place) -> Option<Place> {
+    let Place { i, j, k } = place;
+    match axis {
+        AxisName::X => Some(Place {
+            i: one_less(i)?,
+            j,
+            k,
+        }),
+        AxisName::Y => Some(Place {
+            i,
+            j: one_less(j)?,
+            k,
+        }),
+        AxisName::Z => Some(Place {
+            i,
+            j,
+            k: one_less(k)?,
+        }),
     }
 }
 
-// Whether both see the same in a cell.
-fn is_same_cell(body: &Body, grid: &Grid, plain: &PlainGrid, cell: CellId) -> bool
-    requires carries { CarriesBody grid.now body.now }
-    requires cell { cell.0 < cell_count (counts_of grid.now) }
-    requires plain { IsPlain plain.now }
-{
-    let at = grid.counts().cell_place(cell);
-    let place = Place {
-        i: at.i as usize,
-        j: at.j as usize,
-        k: at.k as usize,
-    };
-    is_cell(plain, place)
-        && is_filled_so(
-            &plain.detail,
-            body.occupant(grid, cell),
-            plain.occupant(place),
-        )
+fn surface(air: Occupant, low_is_air: bool) -> FaceKind {
+    match air {
+        Occupant::Air { environment, rs } => FaceKind::Surface {
+            environment,
+            rs,
+            low_is_air,
+        },
+        Occupant::Solid { .. } => FaceKind::Inner,
+    }
 }
 
-// Whether both see a face alike.
-fn is_same_face(body: &Body, grid: &Grid, plain: &PlainGrid, face: FaceId) -> bool
-    requires carries { CarriesBody grid.now body.now }
-    requires face { face.0 < face_count (counts_of grid.now) }
-    requires plain { IsPlain plain.now }
-{
-    let placed = grid.counts().face_place(face);
-    let (second, third) = other_axes(placed.axis);
-    let site = Site {
-        axis: placed.axis,
-        i: placed.place.along(placed.axis) as usize,
-        j: placed.place.along(second) as usize,
-        k: placed.place.along(third) as usize,
-    };
-    is_face(plain, site) && body.kind(grid, face) == plain.kind(site)
+// The kind of a face, from what lies on its two sides.
+fn kind_between(below: Option<Occupant>, above: Option<Occupant>) -> FaceKind {
+    match (below, above) {
+        (Some(Occupant::Solid { .. }), Some(high)) => surface(high, false),
+        (Some(low), Some(Occupant::Solid { .. })) => surface(low, true),
+        (Some(Occupant::Solid { .. }), None) => FaceKind::Shut,
+        (None, Some(Occupant::Solid { .. })) => FaceKind::Shut,
+        _ => FaceKind::Idle,
+    }
 }
 
-fn are_same_cells(body: &Body, grid: &Grid, plain: &PlainGrid) -> bool
+// The kind of a face of the finer grid.
+fn kind_at(detail: &Detail, face: FacePlace) -> FaceKind {
+    let below = match place_below(face.axis, face.place) {
+        Some(place) => occupant_at(detail, place),
+        None => None,
+    };
+    kind_between(below, occupant_at(detail, face.place))
+}
+
+fn are_same_cells(body: &Body, grid: &Grid, detail: &Detail) -> bool
     requires carries { CarriesBody grid.now body.now }
-    requires plain { IsPlain plain.now }
 {
     for number in 0..grid.cells() {
-        if !is_same_cell(body, grid, plain, CellId(number)) {
+        let cell = CellId(number);
+        let plain = occupant_at(detail, grid.counts().cell_place(cell));
+        if plain != Some(body.occupant(grid, cell)) {
             return false;
         }
     }
     true
 }
 
-fn are_same_faces(body: &Body, grid: &Grid, plain: &PlainGrid) -> bool
+fn are_same_faces(body: &Body, grid: &Grid, detail: &Detail) -> bool
     requires carries { CarriesBody grid.now body.now }
-    requires plain { IsPlain plain.now }
 {
     for number in 0..grid.faces() {
-        if !is_same_face(body, grid, plain, FaceId(number)) {
+        let face = FaceId(number);
+        if kind_at(detail, grid.counts().face_place(face)) != body.kind(grid, face) {
             return false;
         }
     }
@@ -144,13 +170,6 @@ fn finer_grid(alloc: Global) -> Result<Grid, Fail> {
         Ok(grid) => Ok(grid),
         Err(_) => Err(Fail::from("no grid")),
     }
-}
-
-fn plain_grid(alloc: Global, detail: Detail) -> Result<PlainGrid, AllocError> {
-    let x = Vec::from_slice(alloc, &X)?;
-    let y = Vec::from_slice(alloc, &Y)?;
-    let z = Vec::from_slice(alloc, &Z)?;
-    Ok(PlainGrid { detail, x, y, z })
 }
 
 fn wall(alloc: Global) -> Result<Detail, Fail>
@@ -171,23 +190,20 @@ pub(crate) fn body_of(alloc: Global, detail: &Detail) -> Result<Body, Fail>
     }
 }
 
-// Whether the body and the plain program see the same in each cell and at each face.
-fn see_the_same(body: &Body, grid: &Grid, plain: &PlainGrid) -> bool {
+// Whether the body on the finer grid is what the plain reading of its detail gives, in each cell and at each face.
+fn see_the_same(body: &Body, grid: &Grid, detail: &Detail) -> bool {
     if !body.carries(grid) {
         return false;
     }
-    if !plain.is_within_limits() {
-        return false;
-    }
-    are_same_cells(body, grid, plain) && are_same_faces(body, grid, plain)
+    are_same_cells(body, grid, detail) && are_same_faces(body, grid, detail)
 }
 
 #[test]
 fn a_finer_grid_shows_the_same_body(rt: HostRuntime) -> Result<(), Fail> {
     let grid = finer_grid(rt.alloc())?;
+    assert!(rt; grid.cells() == 88 && grid.faces() == 338);
     let detail = wall(rt.alloc())?;
     let body = body_of(rt.alloc(), &detail)?;
-    let plain = plain_grid(rt.alloc(), detail)?;
-    assert!(rt; see_the_same(&body, &grid, &plain));
+    assert!(rt; see_the_same(&body, &grid, &detail));
     Ok(())
 }

@@ -1,5 +1,5 @@
-//! Tests that cross crates: the commands from words and bytes to text and status, bodies on grids beside the plain
-//! program, and fields and fluxes on bodies.
+//! Tests that cross crates: the commands from words and bytes to text and status, bodies on grids beside a plain reading
+//! of their details, and fields and fluxes on bodies.
 #![tactic(auto)]
 
 #[cfg(test)]

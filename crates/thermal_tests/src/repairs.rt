@@ -1,15 +1,19 @@
-// Repaired fluxes on a wall and on a corner, and the faces that have a cycle. The flows were computed by a separate program, which solves the equations of
-// balance for the flows through all outlets at once, in exact fractions.
-ghost use Rattle.std.specs.Prelude.{◌≤◌, length};
+// Repaired fluxes on a wall and on a corner, and the cycles of a corner. The flows and sums were computed by separate
+// programs, which solve the equations of balance for the flows through all outlets at once, in exact fractions.
+ghost use Rattle.std.specs.Prelude.{◌≡◌, ◌<◌, ◌≤◌, ◌*◌, ◌^◌, length, pos, unsigned_abs};
+ghost use Rattle.tb_places.specs.Places.{face_count};
+ghost use Rattle.tb_grid.specs.Grid.{counts_of};
+ghost use Rattle.tb_outlets.specs.Balancing.{IsWithinLimits};
 
 use crate::grids::axis;
 use crate::ends::CORNER;
 use crate::walls::{WALL, body};
 use std::alloc::Global;
 use std::test::Fail;
+use tb_cycles::FacePull;
 use tb_flux::Flux;
 use tb_geometry::Body;
-use tb_grid::{FaceId, Grid};
+use tb_grid::{CellCounts, FaceId, FacePlace, Grid};
 use tb_repair::{RepairWork, repair};
 use tb_trees::OutletTree;
 
@@ -100,5 +104,106 @@ fn cycles_of_a_corner(rt: HostRuntime) -> Result<(), Fail> {
     let corner = body(rt.alloc(), CORNER)?;
     let faces = cycle_faces(rt.alloc(), &corner, corner.base())?;
     assert_eq!(rt; faces.as_slice(), [18, 19, 25, 26, 29].as_slice());
+    Ok(())
+}
+
+// Tells the number of each face.
+struct FaceNumbers;
+
+impl FacePull for FaceNumbers {
+    ghost pulls = { λ _ face. pos face };
+
+    ghost fits = { λ _ _. Unit {0} };
+
+    fn pull(&self, counts: CellCounts, face: FacePlace) -> i128 {
+        i128::from(counts.face_number(face.axis, face.place).0)
+    }
+}
+
+// The sum of the numbers of faces over each cycle, on a grid that carries the body.
+fn cycle_sums(alloc: Global, body: &Body, grid: &Grid) -> Result<Vec<i128>, Fail> {
+    if !body.carries(grid) {
+        return Err(Fail::from("not carried"));
+    }
+    let tree = OutletTree::new(alloc, body, grid)?;
+    let mut sums = Vec::new(alloc);
+    for number in 0..tree.faces() {
+        if let Some(entry) = tree.cycle_entry(FaceId(number)) {
+            sums.push(tree.cycle_pull(&FaceNumbers, entry))?;
+        }
+    }
+    Ok(sums)
+}
+
+#[test]
+fn sums_over_cycles_of_a_corner(rt: HostRuntime) -> Result<(), Fail> {
+    let corner = body(rt.alloc(), CORNER)?;
+    let sums = cycle_sums(rt.alloc(), &corner, corner.base())?;
+    assert_eq!(rt; sums.as_slice(), [-24, -61, 11, -3, -58].as_slice());
+    Ok(())
+}
+
+// Adds a multiple of the cycle of a face, if it has one.
+fn with_cycle(tree: &OutletTree, flows: &mut [i64], face: FaceId, multiple: i64)
+    requires face { face.0 < face_count (counts_of tree.now.grid) }
+    requires whole { length flows.old ≡ face_count (counts_of tree.now.grid) }
+    requires limits { IsWithinLimits flows.old }
+    requires multiple { unsigned_abs multiple ≤ 2 * 10 ^ 12 }
+    ensures { length flows.new ≡ length flows.old }
+{
+    if let Some(entry) = tree.cycle_entry(face) {
+        tree.add_cycle(flows, entry, multiple);
+    }
+}
+
+// The faces whose flows differ from those given of the corner, with their flows.
+fn changes(alloc: Global, flows: &[i64]) -> Result<Vec<(usize, i64)>, Fail> {
+    let mut changes = Vec::new(alloc);
+    for (number, flow) in flows.iter().enumerate() {
+        if GIVEN.get(number) != Some(flow) {
+            changes.push((number, *flow))?;
+        }
+    }
+    Ok(changes)
+}
+
+// What changes in the flows of the corner by a multiple of the cycle of a face.
+fn changes_by_cycle(
+    alloc: Global,
+    body: &Body,
+    grid: &Grid,
+    face: FaceId,
+    multiple: i64,
+) -> Result<Vec<(usize, i64)>, Fail>
+    requires { unsigned_abs multiple ≤ 1000 }
+{
+    if !body.carries(grid) || face.0 >= grid.faces() {
+        return Err(Fail::from("no face of a grid that carries the body"));
+    }
+    let mut flux = Flux::from_values(Vec::from_slice(alloc, &GIVEN)?);
+    if !flux.fits(grid) || !flux.is_within_limits() {
+        return Err(Fail::from("no flux"));
+    }
+    let tree = OutletTree::new(alloc, body, grid)?;
+    with_cycle(&tree, flux.values_mut(), face, multiple);
+    changes(alloc, flux.values())
+}
+
+// The cycle of face 29 leads over the outlet at 15 to the root at 14, that of 19 over the outlet at 28. Face 14 has none.
+#[test]
+fn cycles_that_are_added(rt: HostRuntime) -> Result<(), Fail> {
+    let corner = body(rt.alloc(), CORNER)?;
+    let changed = changes_by_cycle(rt.alloc(), &corner, corner.base(), FaceId(29), 7)?;
+    assert_eq!(rt;
+        changed.as_slice(),
+        [(14, -183), (15, -268), (29, 543)].as_slice()
+    );
+    let changed = changes_by_cycle(rt.alloc(), &corner, corner.base(), FaceId(19), -1000)?;
+    assert_eq!(rt;
+        changed.as_slice(),
+        [(14, 824), (19, 399), (28, 1635)].as_slice()
+    );
+    let changed = changes_by_cycle(rt.alloc(), &corner, corner.base(), FaceId(14), 7)?;
+    assert!(rt; changed.is_empty());
     Ok(())
 }
