@@ -27,9 +27,9 @@ use Rattle.tb_terms.specs.Limits.{IsResistance, IsWidth}
 use Rattle.tb_weighted.specs.FlowMoves.{counts_as}
 use Rattle.tb_weighted.specs.Weighted.{surface_field_weight, surface_flux_weight}
 use Rattle.tb_relax.specs.declared.table.FaceWeight.{FaceWeight}
-use Rattle.tb_sums.proofs.Filled.{above_fits, below_fits}
-use Rattle.tb_sums.proofs.Grids.{width_fits}
-use Rattle.tb_sums.specs.Sides.{IsFilled}
+use Rattle.tb_rows.proofs.Filled.{above_fits, below_fits}
+use Rattle.tb_rows.proofs.Grids.{width_fits}
+use Rattle.tb_rows.specs.Filled.{IsFilled}
 use Rattle.tb_tables.specs.MeshRows.{IsFaceRow}
 use Rattle.tb_tables.proofs.MeshRows.{whole_section, whole_width}
 

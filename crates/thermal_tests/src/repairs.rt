@@ -5,7 +5,6 @@ ghost use Rattle.tb_places.specs.Places.{face_count};
 ghost use Rattle.tb_grid.specs.Grid.{counts_of};
 ghost use Rattle.tb_outlets.specs.Balancing.{IsWithinLimits};
 
-use crate::grids::axis;
 use crate::ends::CORNER;
 use crate::walls::{WALL, body};
 use std::alloc::Global;

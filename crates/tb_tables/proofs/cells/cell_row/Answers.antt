@@ -4,7 +4,7 @@ use Rattle.tb_places.specs.Inverse.{cell_place}
 use Rattle.tb_grid.specs.Grid.{counts_of}
 use Rattle.tb_geometry.specs.Grids.{mesh_on, occupant_at}
 use Rattle.tb_geometry.specs.declared.occupant.Occupant.TheVariants.{Solid}
-use Rattle.tb_sums.proofs.Filled.{occupant_fits}
+use Rattle.tb_rows.proofs.Filled.{occupant_fits}
 use Rattle.tb_tables.specs.MeshRows.{IsCellRow}
 use Rattle.tb_tables.proofs.MeshRows.{air_row, solid_row}
 use Rattle.tb_tables.proofs.cells.cell_row.Goals as goal

@@ -1,7 +1,7 @@
 use Rattle.std.proofs.Common.{sym, subst, ℕ}
 use Rattle.tb_places.specs.declared.AxisName.TheVariants.{X, Y, Z}
 use Rattle.tb_terms.specs.Limits.{IsWidth}
-use Rattle.tb_sums.proofs.Grids.{width_fits}
+use Rattle.tb_rows.proofs.Grids.{width_fits}
 use Rattle.tb_tables.proofs.cells.widths_at.Goals as goal
 
 pub returns-clause-x_fits : goal.returns-clause-x_fits

@@ -1,4 +1,0 @@
-pub mod Plain
-pub mod Values
-pub mod Summation
-pub mod Items
