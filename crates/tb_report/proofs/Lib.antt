@@ -1,0 +1,4 @@
+pub mod Filled
+pub mod Gathering
+pub mod Reported
+pub mod Transmittances

@@ -1,0 +1,5 @@
+pub mod Ends
+pub mod Values
+pub mod Texts
+pub mod Limits
+pub mod Sound
