@@ -1,4 +1,6 @@
 pub mod Filled
 pub mod Gathering
+pub mod Sizes
+pub mod Sources
 pub mod Reported
 pub mod Transmittances

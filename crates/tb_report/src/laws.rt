@@ -13,6 +13,7 @@ ghost use Rattle.tb_report.specs.Sound.{IsSoundOf};
 ghost use Rattle.tb_conduct.specs.Pairs.{AreWithin};
 ghost use Rattle.tb_bundle.specs.Limits.{BundleInLimits};
 ghost use Rattle.tb_bundle.specs.declared.bundle.Bundle.{Bundle};
+ghost use Rattle.tb_checker.specs.Contents.{AreCertified};
 ghost use Rattle.tb_report.specs.Ends.{Holds, printed};
 ghost use Rattle.tb_report.specs.Limits.{HasReport, half_end};
 ghost use Rattle.tb_report.specs.Texts.{intervals_of};
@@ -24,10 +25,15 @@ pub fn printed_ends_enclose()
 {}
 
 /// A bundle within the limits of its format has a report where none of its parts is refused, each case's grid carries the
-/// body and no end is too large. A checked bundle has the last two.
+/// body and no end is too large.
 pub fn bundles_have_reports()
     ensures { (b : Bundle) → BundleInLimits b → None ≡ position (is_ratio_above b.detail) b.detail.parts
         → All (λ c. CarriesBody c.grid b.detail) b.cases → All (AreWithin (2 * half_end)) (intervals_of b) → HasReport b }
+{}
+
+/// A checked bundle has a report where none of its parts is refused.
+pub fn certified_bundles_have_reports()
+    ensures { (b : Bundle) → AreCertified b → None ≡ position (is_ratio_above b.detail) b.detail.parts → HasReport b }
 {}
 
 /// Ψ and χ made of a sound pair are sound on every refinement, whatever values within their ranges the transmittances of
