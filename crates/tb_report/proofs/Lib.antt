@@ -1,5 +1,6 @@
 pub mod Filled
 pub mod Gathering
+pub mod Figures
 pub mod Sizes
 pub mod Sources
 pub mod Reported

@@ -13,4 +13,6 @@ mod faults;
 #[cfg(test)]
 mod grids;
 #[cfg(test)]
+mod reports;
+#[cfg(test)]
 mod walls;
