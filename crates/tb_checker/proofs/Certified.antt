@@ -31,6 +31,7 @@ module _ (d : Detail) (limits : InLimits d) (n : ℕ) (c : CaseProof) (can : IsJ
       record {
         carries = can.carries;
         balanced = balanced;
+        loss = has_ends;
         ends = ends;
         verdict = verdict;
         sound = subst (λ (i : Interval). IsSound (scene_of d) (inside_of c) i.lo i.hi) (sym ends)

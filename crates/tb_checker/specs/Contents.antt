@@ -69,10 +69,11 @@ pub record IsJudgeable (d : Detail) (c : CaseProof) : Type 0 where
 
 -- A case without a fault: its interval is that of its field and its flux, which is balanced. So the interval is sound:
 -- on every refinement of the body each field has an energy of at least the lower end, and each balanced flux a bound of
--- at most the upper end
+-- at most the upper end. The loss of the flux is within its limit
 pub record IsCertifiedCase (d : Detail) (c : CaseProof) : Type 0 where
   pub carries : CarriesBody c.grid d
   pub balanced : IsBalanced (mesh_of d c) (flux_in c)
+  pub loss : HasEnds d c
   pub ends : c.interval ≡ ends_of d c
   pub verdict : IsJudgedRightly c
   pub sound : IsSound (scene_of d) (inside_of c) c.interval.lo c.interval.hi

@@ -19,8 +19,10 @@ use Rattle.tb_case_records.specs.declared.case.CaseProof.{CaseProof}
 use Rattle.tb_bundle.specs.Bodies.{case_forms, case_forms_from}
 use Rattle.tb_bundle.specs.Limits.{BundleInLimits, CasesInLimits}
 use Rattle.tb_bundle.specs.declared.bundle.Bundle.{Bundle}
+use Rattle.tb_checker.specs.Contents.{AreCertified}
 use Rattle.tb_report.specs.Limits.{HasReport, half_end}
 use Rattle.tb_report.specs.Texts.{intervals_of}
+use Rattle.tb_report.proofs.Sources.{all_within}
 
 -- a list without a first item that passes a test has none that passes
 none_passes : {A : Type 0} (p : A → Bool) (xs : List A) → None ≡ position p xs → All (λ x. p x ≡ false) xs
@@ -57,3 +59,8 @@ has_report b limits unrefused carries sizes = record {
   };
   cases = λ k c within. record { carries = carries k c within; fits = each_fits (case_forms b.detail) b.cases limits.cases k c within };
 }
+
+pub certified_has_report : (b : Bundle) → AreCertified b → None ≡ position (is_ratio_above b.detail) b.detail.parts → HasReport b
+certified_has_report b certified unrefused =
+    has_report b certified.limits unrefused (λ k c within. (certified.cases k c within).carries)
+    (all_within b.detail certified.limits.detail 1 (case_masks (length b.detail.environments)) b.cases certified.limits.cases certified.cases)

@@ -1,9 +1,8 @@
 -- The text of a report: a record a line.
-use Rattle.std.specs.Prelude.{◌==◌, ℕ, ◌%◌, ◌^◌, ◌++◌, List, [], map, length, slice_index_or, nat_lt, codes, if◌then◌else◌, Option, Some, None, Result, Ok, Err}
+use Rattle.std.specs.Prelude.{◌==◌, ℕ, ◌++◌, List, [], map, length, nat_lt, codes, if◌then◌else◌, Option, Some, None, Result, Ok, Err}
 use Rattle.std.specs.List.{flat_map}
 use Rattle.tb_detail.specs.declared.Detail.{Detail}
 use Rattle.tb_detail.specs.declared.Part.{Part}
-use Rattle.tb_model.specs.Values.{case_of}
 use Rattle.tb_numbers.specs.Texts.{fixed_text}
 use Rattle.tb_planar.specs.declared.PlanarU.{PlanarU}
 use Rattle.tb_planar.specs.declared.RatioAbove.{RatioAbove}
@@ -16,18 +15,9 @@ use Rattle.tb_case_records.specs.declared.case.CaseProof.{CaseProof}
 use Rattle.tb_case_records.specs.declared.ends.Verdict.{Verdict}
 use Rattle.tb_case_records.specs.declared.ends.Verdict.TheVariants.{Done, GridLimit, SweepsSpent}
 use Rattle.tb_bundle.specs.declared.bundle.Bundle.{Bundle}
+use Rattle.tb_checker.specs.Texts.{name_of, set_name}
 use Rattle.tb_report.specs.Ends.{ends_text}
 use Rattle.tb_report.specs.Values.{chi_value, pair_interval, psi_value}
-
-abbrev pub name_of : Detail → ℕ → List ℕ
-name_of d e = (slice_index_or d.environments e (record { name = [] })).name
-
--- the names of the environments of a set, with a plus between them: one stands before each but the first
-abbrev pub name_in_set : Detail → ℕ → ℕ → List ℕ
-name_in_set d set e = if case_of set e then (if set % 2 ^ e == 0 then [] else codes "+") ++ name_of d e else []
-
-abbrev pub set_name : Detail → ℕ → List ℕ
-set_name d set = joined (length d.environments) (name_in_set d set)
 
 -- ---- cases
 

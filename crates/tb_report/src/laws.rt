@@ -9,10 +9,11 @@ ghost use Rattle.tb_terms.specs.declared.Interval.{Interval};
 ghost use Rattle.tb_conduct.specs.Coupling.{IsSoundPair};
 ghost use Rattle.tb_psi.specs.Heat.{HoldLines, HoldPlanar, PlanarTerm, line_heat, planar_heat};
 ghost use Rattle.tb_psi.specs.Transmittances.{chi_interval, psi_interval};
-ghost use Rattle.tb_report.specs.Sound.{IsSoundOf};
+ghost use Rattle.tb_report.specs.Sound.{HasSoundFigures, IsSoundOf};
 ghost use Rattle.tb_conduct.specs.Pairs.{AreWithin};
 ghost use Rattle.tb_bundle.specs.Limits.{BundleInLimits};
 ghost use Rattle.tb_bundle.specs.declared.bundle.Bundle.{Bundle};
+ghost use Rattle.tb_checker.specs.Contents.{AreCertified};
 ghost use Rattle.tb_report.specs.Ends.{Holds, printed};
 ghost use Rattle.tb_report.specs.Limits.{HasReport, half_end};
 ghost use Rattle.tb_report.specs.Texts.{intervals_of};
@@ -24,10 +25,20 @@ pub fn printed_ends_enclose()
 {}
 
 /// A bundle within the limits of its format has a report where none of its parts is refused, each case's grid carries the
-/// body and no end is too large. A checked bundle has the last two.
+/// body and no end is too large.
 pub fn bundles_have_reports()
     ensures { (b : Bundle) → BundleInLimits b → None ≡ position (is_ratio_above b.detail) b.detail.parts
         → All (λ c. CarriesBody c.grid b.detail) b.cases → All (AreWithin (2 * half_end)) (intervals_of b) → HasReport b }
+{}
+
+/// A checked bundle has a report where none of its parts is refused.
+pub fn certified_bundles_have_reports()
+    ensures { (b : Bundle) → AreCertified b → None ≡ position (is_ratio_above b.detail) b.detail.parts → HasReport b }
+{}
+
+/// The figures of a checked bundle are sound on every refinement.
+pub fn certified_bundles_have_sound_figures()
+    ensures { (b : Bundle) → AreCertified b → HasSoundFigures b }
 {}
 
 /// Ψ and χ made of a sound pair are sound on every refinement, whatever values within their ranges the transmittances of

@@ -8,6 +8,7 @@
 //! Nothing here takes memory.
 #![tactic(auto)]
 
+mod checked;
 mod ends;
 pub mod laws;
 mod lines;
@@ -16,4 +17,5 @@ mod report;
 mod terms;
 mod values;
 
+pub use checked::{CheckedReport, write_report};
 pub use report::Report;

@@ -10,11 +10,13 @@ ghost use Rattle.tb_report.specs.Texts.{case_line, chi_lines, factor_lines, figu
 ghost use Rattle.tb_report.specs.Values.{no_part};
 
 use crate::ends::put_ends;
+use crate::laws::certified_bundles_have_reports;
 use crate::lines::{coefficient_word, put_case, put_factor, put_value};
 use crate::names::{bytes_of, environments, name_at};
 use crate::terms::{chi_value, psi_value, u_of};
 use crate::values::{cases_of, intervals_of, pair_of};
 use tb_bundle::{Bundle, CaseProof};
+use tb_checker::Checked;
 use tb_detail::{ChiItem, Detail, Part, PsiItem};
 use tb_geometry::Body;
 use tb_outside::{OutputBuffer, Sink, Text};
@@ -25,6 +27,26 @@ use tb_terms::Interval;
 pub struct Report<'a> {
     pub bundle: &'a Bundle,
     pub body: &'a Body,
+}
+
+impl<'a> Report<'a> {
+    ghost use Rattle.std.specs.Prelude.{None, position};
+    ghost use Rattle.tb_planar.specs.Printed.{is_ratio_above};
+
+    /// The report of a checked bundle, with the body of its detail. None of its parts is refused.
+    pub fn of(checked: &'a Checked, body: &'a Body) -> Report<'a>
+        requires body { body.now ≡ checked.now.detail }
+        requires unrefused { None ≡ position (is_ratio_above checked.now.detail) checked.now.detail.parts }
+        ensures bundle { result.bundle.now ≡ checked.now }
+        ensures body { result.body.now ≡ checked.now.detail }
+        ensures has_report { HasReport checked.now }
+    {
+        certified_bundles_have_reports();
+        Report {
+            bundle: checked.bundle(),
+            body,
+        }
+    }
 }
 
 fn put_cases<K: Sink>(buffer: &mut OutputBuffer, sink: &mut K, detail: &Detail, cases: &[CaseProof])

@@ -10,7 +10,7 @@ use Rattle.tb_options.specs.declared.SolveOption.{SolveOption}
 use Rattle.tb_options.specs.declared.SolveOption.TheVariants.{Width, Grade, Halve, Sweeps}
 use Rattle.tb_options.specs.declared.SolveOptions.{SolveOptions}
 use Rattle.thermal_cli.specs.declared.words.Command.{Command}
-use Rattle.thermal_cli.specs.declared.words.Command.TheVariants.{Check, Solve, UValue}
+use Rattle.thermal_cli.specs.declared.words.Command.TheVariants.{Check, Report, Solve, UValue}
 use Rattle.thermal_cli.specs.Words.{HasReading, Names}
 
 -- ---- words give at most one reading
@@ -48,14 +48,21 @@ differ words a b r s h k f t =
 
 pub one_command : (words : List (List ℕ)) (c d : Command) → Names words c → Names words d → c ≡ d
 one_command words Check Check a b = refl
+one_command words Check Report a b = absurd (differ words (codes "check") (codes "report") [] [] a b refl refl)
 one_command words Check (Solve p) a b = absurd (differ words (codes "check") (codes "solve") [] b.0 a b.1 refl refl)
 one_command words Check UValue a b = absurd (differ words (codes "check") (codes "uvalue") [] [] a b refl refl)
+one_command words Report Check a b = absurd (differ words (codes "report") (codes "check") [] [] a b refl refl)
+one_command words Report Report a b = refl
+one_command words Report (Solve p) a b = absurd (differ words (codes "report") (codes "solve") [] b.0 a b.1 refl refl)
+one_command words Report UValue a b = absurd (differ words (codes "report") (codes "uvalue") [] [] a b refl refl)
 one_command words (Solve o) Check a b = absurd (differ words (codes "solve") (codes "check") a.0 [] a.1 b refl refl)
+one_command words (Solve o) Report a b = absurd (differ words (codes "solve") (codes "report") a.0 [] a.1 b refl refl)
 one_command words (Solve o) (Solve p) a b =
     let same : a.0 ≡ b.0 = ap behind (sym a.1 ∙ b.1) in
     ap Solve (one_reading b.0 o p (subst (λ (w : List (List ℕ)). IsReading w o) same a.2) b.2)
 one_command words (Solve o) UValue a b = absurd (differ words (codes "solve") (codes "uvalue") a.0 [] a.1 b refl refl)
 one_command words UValue Check a b = absurd (differ words (codes "uvalue") (codes "check") [] [] a b refl refl)
+one_command words UValue Report a b = absurd (differ words (codes "uvalue") (codes "report") [] [] a b refl refl)
 one_command words UValue (Solve p) a b = absurd (differ words (codes "uvalue") (codes "solve") [] b.0 a b.1 refl refl)
 one_command words UValue UValue a b = refl
 
@@ -74,12 +81,14 @@ solve_named w rest o e h = (rest, ap (λ (v : List ℕ). v ∷ rest) (is_word w 
 -- `solve` with other words
 pub no_options : (w : List ℕ) (rest : List (List ℕ)) → bytes_eq w (codes "solve") ≡ true → ((o : SolveOptions) → ¬ IsReading rest o) → ¬ HasReading (w ∷ rest)
 no_options w rest e h (Check, k) = differ (w ∷ rest) (codes "solve") (codes "check") rest [] (ap (λ (v : List ℕ). v ∷ rest) (is_word w (codes "solve") e)) k refl refl
+no_options w rest e h (Report, k) = differ (w ∷ rest) (codes "solve") (codes "report") rest [] (ap (λ (v : List ℕ). v ∷ rest) (is_word w (codes "solve") e)) k refl refl
 no_options w rest e h (Solve o, k) = h o (subst (λ (r : List (List ℕ)). IsReading r o) (sym (ap behind k.1)) k.2)
 no_options w rest e h (UValue, k) = differ (w ∷ rest) (codes "solve") (codes "uvalue") rest [] (ap (λ (v : List ℕ). v ∷ rest) (is_word w (codes "solve") e)) k refl refl
 
 -- another word with words behind it
 pub not_alone : (w : List ℕ) (rest : List (List ℕ)) → bytes_eq w (codes "solve") ≡ false → rest ≢ [] → ¬ HasReading (w ∷ rest)
 not_alone w rest e some (Check, k) = some (ap behind k)
+not_alone w rest e some (Report, k) = some (ap behind k)
 not_alone w rest e some (Solve o, k) = other_word w (codes "solve") e (ap first k.1)
 not_alone w rest e some (UValue, k) = some (ap behind k)
 
@@ -87,17 +96,22 @@ not_alone w rest e some (UValue, k) = some (ap behind k)
 pub check_named : (w : List ℕ) (rest : List (List ℕ)) → bytes_eq w (codes "check") ≡ true → rest ≡ [] → Names (w ∷ rest) Check
 check_named w rest e none_more = rw (is_word w (codes "check") e, none_more) refl
 
+pub report_named : (w : List ℕ) (rest : List (List ℕ)) → bytes_eq w (codes "report") ≡ true → rest ≡ [] → Names (w ∷ rest) Report
+report_named w rest e none_more = rw (is_word w (codes "report") e, none_more) refl
+
 pub uvalue_named : (w : List ℕ) (rest : List (List ℕ)) → bytes_eq w (codes "uvalue") ≡ true → rest ≡ [] → Names (w ∷ rest) UValue
 uvalue_named w rest e none_more = rw (is_word w (codes "uvalue") e, none_more) refl
 
 -- a word of no command
-pub unknown : (w : List ℕ) (rest : List (List ℕ)) → bytes_eq w (codes "solve") ≡ false → bytes_eq w (codes "check") ≡ false → bytes_eq w (codes "uvalue") ≡ false → ¬ HasReading (w ∷ rest)
-unknown w rest s c u (Check, k) = other_word w (codes "check") c (ap first k)
-unknown w rest s c u (Solve o, k) = other_word w (codes "solve") s (ap first k.1)
-unknown w rest s c u (UValue, k) = other_word w (codes "uvalue") u (ap first k)
+pub unknown : (w : List ℕ) (rest : List (List ℕ)) → bytes_eq w (codes "solve") ≡ false → bytes_eq w (codes "check") ≡ false → bytes_eq w (codes "report") ≡ false → bytes_eq w (codes "uvalue") ≡ false → ¬ HasReading (w ∷ rest)
+unknown w rest s c r u (Check, k) = other_word w (codes "check") c (ap first k)
+unknown w rest s c r u (Report, k) = other_word w (codes "report") r (ap first k)
+unknown w rest s c r u (Solve o, k) = other_word w (codes "solve") s (ap first k.1)
+unknown w rest s c r u (UValue, k) = other_word w (codes "uvalue") u (ap first k)
 
 pub no_word : ¬ HasReading []
 no_word (Check, k) = cc k
+no_word (Report, k) = cc k
 no_word (Solve o, k) = let e = k.1 in cc e
 no_word (UValue, k) = cc k
 

@@ -4,25 +4,33 @@ use Rattle.tb_options.specs.declared.SolveOptions.{SolveOptions}
 use Rattle.thermal_cli.specs.declared.answer.Answer.{Answer}
 use Rattle.thermal_cli.specs.declared.check.CheckAnswer.{CheckAnswer}
 use Rattle.thermal_cli.specs.declared.check.CheckAnswer.TheVariants as check
+use Rattle.thermal_cli.specs.declared.report.ReportAnswer.{ReportAnswer}
+use Rattle.thermal_cli.specs.declared.report.ReportAnswer.TheVariants as report
 use Rattle.thermal_cli.specs.declared.solve.SolveAnswer.{SolveAnswer}
 use Rattle.thermal_cli.specs.declared.uvalue.UValueAnswer.{UValueAnswer}
 use Rattle.thermal_cli.specs.declared.uvalue.UValueAnswer.TheVariants as uvalue
 use Rattle.thermal_cli.specs.declared.status.Status.{Status}
 use Rattle.thermal_cli.specs.declared.status.Status.TheVariants as status
 use Rattle.thermal_cli.specs.declared.words.Command.{Command}
-use Rattle.thermal_cli.specs.declared.words.Command.TheVariants.{Check, Solve, UValue}
+use Rattle.thermal_cli.specs.declared.words.Command.TheVariants.{Check, Report, Solve, UValue}
 use Rattle.thermal_cli.specs.Answers.{Answers, answer_message}
 use Rattle.thermal_cli.specs.Check.{check_status}
+use Rattle.thermal_cli.specs.Report.{report_status}
 use Rattle.thermal_cli.specs.Solve.{solve_status}
 use Rattle.thermal_cli.specs.UValue.{uvalue_status}
 
--- none tells a fault of the run itself, and only `check` refuses a certificate
+-- none tells a fault of the run itself, and only `check` and `report` refuse a certificate
 abbrev pub IsEndingOf : Command → Status → Type 0
-IsEndingOf c s = (s ≡ status.Fine) ⊎ ((s ≡ status.Refused) ⊎ ((s ≡ status.WidthNotReached) ⊎ ((s ≡ status.CertificateRefused) × (c ≡ Check))))
+IsEndingOf c s = (s ≡ status.Fine) ⊎ ((s ≡ status.Refused) ⊎ ((s ≡ status.WidthNotReached) ⊎ ((s ≡ status.CertificateRefused) × ((c ≡ Check) ⊎ (c ≡ Report)))))
 
 check_ends : (a : CheckAnswer) → IsEndingOf Check (check_status a)
-check_ends (check.Fault f) = inr (inr (inr (refl, refl)))
+check_ends (check.Fault f) = inr (inr (inr (refl, inl refl)))
 check_ends (check.Accepted b) = inl refl
+
+report_ends : (a : ReportAnswer) → IsEndingOf Report (report_status a)
+report_ends (report.Fault f) = inr (inr (inr (refl, inr refl)))
+report_ends (report.FaultOfPart f) = inr (inl refl)
+report_ends (report.Report b) = inl refl
 
 solve_ends : (o : SolveOptions) (a : SolveAnswer) → IsEndingOf (Solve o) (solve_status a)
 solve_ends o a = inr (inl refl)
@@ -35,5 +43,6 @@ uvalue_ends (uvalue.Values v) = inl refl
 -- a line for each command
 pub answers_end : (c : Command) (bytes : List ℕ) (a : Answer) → Answers c bytes a → IsEndingOf c (answer_message a).status
 answers_end Check bytes a h = subst (λ (b : Answer). IsEndingOf Check (answer_message b).status) (sym h.1) (check_ends h.0)
+answers_end Report bytes a h = subst (λ (b : Answer). IsEndingOf Report (answer_message b).status) (sym h.1) (report_ends h.0)
 answers_end (Solve o) bytes a h = subst (λ (b : Answer). IsEndingOf (Solve o) (answer_message b).status) (sym h.1) (solve_ends o h.0)
 answers_end UValue bytes a h = subst (λ (b : Answer). IsEndingOf UValue (answer_message b).status) (sym h.1) (uvalue_ends h.0)

@@ -7,15 +7,21 @@ use Rattle.tb_bundle.specs.declared.bundle.Bundle.{Bundle}
 use Rattle.thermal_cli.specs.declared.answer.Answer.{Answer}
 use Rattle.thermal_cli.specs.declared.check.CheckAnswer.{CheckAnswer}
 use Rattle.thermal_cli.specs.declared.check.CheckAnswer.TheVariants as check
+use Rattle.thermal_cli.specs.declared.report.ReportAnswer.{ReportAnswer}
+use Rattle.thermal_cli.specs.declared.report.ReportAnswer.TheVariants as report
 use Rattle.thermal_cli.specs.declared.status.Status.{Status}
 use Rattle.thermal_cli.specs.declared.status.Status.TheVariants as status
 use Rattle.thermal_cli.specs.declared.told.Told.TheVariants as told
 use Rattle.thermal_cli.specs.declared.words.Command.{Command}
-use Rattle.thermal_cli.specs.declared.words.Command.TheVariants.{Check}
+use Rattle.thermal_cli.specs.declared.words.Command.TheVariants.{Check, Report}
 use Rattle.thermal_cli.specs.Answers.{Answers, answer_message}
-use Rattle.thermal_cli.specs.Check.{CheckAnswers, check_status, check_text}
-use Rattle.thermal_cli.specs.Outcome.{IsAnswered, IsInterrupted, IsRead, Runs, TellsAccepted, TellsOf, WritesFrontOfOne}
+use Rattle.thermal_cli.specs.Check.{Accepts, CheckAnswers, check_status, check_text}
+use Rattle.thermal_cli.specs.Outcome.{IsAnswered, IsInterrupted, IsRead, Runs, TellsAccepted, TellsOf, TellsReport, WritesFrontOfOne}
+use Rattle.thermal_cli.specs.Report.{ReportAnswers, report_status, report_text}
 use Rattle.thermal_cli.specs.Words.{HasReading, Names}
+use Rattle.tb_report.specs.Sound.{HasSoundFigures}
+use Rattle.tb_report.specs.Texts as figures
+use Rattle.tb_report.proofs.Figures.{figures_sound}
 use Rattle.thermal_cli.proofs.Endings.{IsEndingOf, answers_end}
 use Rattle.thermal_cli.proofs.Commands.{one_command}
 
@@ -42,8 +48,8 @@ not_answered c bytes x s other h e p f =
     let g : is_of_answers s ≡ false = ap is_of_answers p ∙ f in
     cc (t, g)
 
--- only `check` refuses a certificate
-by_check : (c : Command) (s : Status) → IsEndingOf c s → s ≡ status.CertificateRefused → c ≡ Check
+-- only `check` and `report` refuse a certificate
+by_check : (c : Command) (s : Status) → IsEndingOf c s → s ≡ status.CertificateRefused → (c ≡ Check) ⊎ (c ≡ Report)
 by_check c s (inl a) e = cc (a, e)
 by_check c s (inr (inl a)) e = cc (a, e)
 by_check c s (inr (inr (inl a))) e = cc (a, e)
@@ -57,6 +63,17 @@ accepted : (bytes : List ℕ) (a : CheckAnswer) (holds_old holds_new : Option (L
     → (b : Bundle) × CheckAnswers bytes (check.Accepted b) × Adds holds_old holds_new (check_text (check.Accepted b))
 accepted bytes (check.Fault f) holds_old holds_new h e w = absurd (not_fine e)
 accepted bytes (check.Accepted b) holds_old holds_new h e w = (b, h, w)
+
+not_refused : status.Fine ≡ status.Refused → ⊥
+not_refused e = cc e
+
+-- the report that is written
+shown : (bytes : List ℕ) (a : ReportAnswer) (holds_old holds_new : Option (List ℕ)) → ReportAnswers bytes a → status.Fine ≡ report_status a → Adds holds_old holds_new (report_text a)
+    → (b : Bundle) × Accepts bytes b × HasSoundFigures b × Adds holds_old holds_new (figures.report_text b)
+shown bytes (report.Fault f) holds_old holds_new h e w = absurd (not_fine e)
+shown bytes (report.FaultOfPart f) holds_old holds_new h e w = absurd (not_refused e)
+shown bytes (report.Report r) holds_old holds_new (b, a, (is, none)) e w =
+    (b, a, figures_sound b a.2, subst (λ (x : Bundle). Adds holds_old holds_new (figures.report_text x)) is w)
 
 -- ---- what each status says
 
@@ -151,10 +168,14 @@ module _ {S K : Type 0} (left : S → Option (List ℕ)) (source_faults : S → 
   pub fine : (s : Status) → s ≡ status.Fine → Ran s → IsAnswered words (left a) (left b) (holds k) (holds l) status.Fine
   fine s p r = subst (IsAnswered words (left a) (left b) (holds k) (holds l)) p (told_answer s (inl p) r)
 
-  pub certificate_refused : (s : Status) → s ≡ status.CertificateRefused → Ran s → Names words Check × IsAnswered words (left a) (left b) (holds k) (holds l) status.CertificateRefused
+  one_of_both : (c : Command) → (c ≡ Check) ⊎ (c ≡ Report) → Names words c → Names words Check ⊎ Names words Report
+  one_of_both c (inl e) h = inl (subst (Names words) e h)
+  one_of_both c (inr e) h = inr (subst (Names words) e h)
+
+  pub certificate_refused : (s : Status) → s ≡ status.CertificateRefused → Ran s → (Names words Check ⊎ Names words Report) × IsAnswered words (left a) (left b) (holds k) (holds l) status.CertificateRefused
   certificate_refused s p r =
       let h = subst (IsAnswered words (left a) (left b) (holds k) (holds l)) p (told_answer s (inr p) r) in
-      (subst (Names words) (by_check h.0 _ (answers_end h.0 h.2 h.4.0 h.4.1) (sym h.4.2)) h.1, h)
+      (one_of_both h.0 (by_check h.0 _ (answers_end h.0 h.2 h.4.0 h.4.1) (sym h.4.2)) h.1, h)
 
   -- of a bundle that was accepted, what `check` accepts was written
   pub certified : (s : Status) → s ≡ status.Fine → Names words Check → Ran s → TellsAccepted (left a) (left b) (holds k) (holds l)
@@ -166,6 +187,17 @@ module _ {S K : Type 0} (left : S → Option (List ℕ)) (source_faults : S → 
       let t : Adds (holds k) (holds l) (check_text x.0) = subst (λ (y : Answer). Adds (holds k) (holds l) (answer_message y).text) x.1 h.4.3 in
       let i = accepted h.2 x.0 (holds k) (holds l) x.2 e t in
       (h.2, h.3, i.0, i.1, i.2)
+
+  -- of a bundle that was accepted, its report was written
+  pub reported : (s : Status) → s ≡ status.Fine → Names words Report → Ran s → TellsReport (left a) (left b) (holds k) (holds l)
+  reported s p w r =
+      let h = fine s p r in
+      let c : h.0 ≡ Report = one_command words h.0 Report h.1 w in
+      let x : Answers Report h.2 h.4.0 = subst (λ (d : Command). Answers d h.2 h.4.0) c h.4.1 in
+      let e : status.Fine ≡ report_status x.0 = h.4.2 ∙ ap (λ (y : Answer). (answer_message y).status) x.1 in
+      let t : Adds (holds k) (holds l) (report_text x.0) = subst (λ (y : Answer). Adds (holds k) (holds l) (answer_message y).text) x.1 h.4.3 in
+      let i = shown h.2 x.0 (holds k) (holds l) x.2 e t in
+      (h.2, h.3, i.0, i.1, i.2, i.3)
 
 -- ---- what becomes of an input
 

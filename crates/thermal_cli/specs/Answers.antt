@@ -4,22 +4,26 @@ use Rattle.std.specs.Prelude.{◌≡◌, ℕ, List}
 use Rattle.thermal_cli.specs.declared.answer.Answer.{Answer}
 use Rattle.thermal_cli.specs.declared.answer.Answer.TheVariants as answer
 use Rattle.thermal_cli.specs.declared.check.CheckAnswer.{CheckAnswer}
+use Rattle.thermal_cli.specs.declared.report.ReportAnswer.{ReportAnswer}
 use Rattle.thermal_cli.specs.declared.solve.SolveAnswer.{SolveAnswer}
 use Rattle.thermal_cli.specs.declared.uvalue.UValueAnswer.{UValueAnswer}
 use Rattle.thermal_cli.specs.declared.words.Command.{Command}
-use Rattle.thermal_cli.specs.declared.words.Command.TheVariants.{Check, Solve, UValue}
+use Rattle.thermal_cli.specs.declared.words.Command.TheVariants.{Check, Report, Solve, UValue}
 use Rattle.thermal_cli.specs.Messages.{Message}
 use Rattle.thermal_cli.specs.Check.{CheckAnswers, check_status, check_text}
+use Rattle.thermal_cli.specs.Report.{ReportAnswers, report_status, report_text}
 use Rattle.thermal_cli.specs.Solve.{SolveAnswers, solve_status, solve_text}
 use Rattle.thermal_cli.specs.UValue.{UValueAnswers, uvalue_status, uvalue_text}
 
 -- a command answers this to these bytes
 abbrev pub Answers : Command → List ℕ → Answer → Type 0
 Answers Check bytes a = (x : CheckAnswer) × (a ≡ answer.Check x) × CheckAnswers bytes x
+Answers Report bytes a = (x : ReportAnswer) × (a ≡ answer.Report x) × ReportAnswers bytes x
 Answers (Solve options) bytes a = (x : SolveAnswer) × (a ≡ answer.Solve x) × SolveAnswers options bytes x
 Answers UValue bytes a = (x : UValueAnswer) × (a ≡ answer.UValue x) × UValueAnswers bytes x
 
 abbrev pub answer_message : Answer → Message
 answer_message (answer.Check x) = record { text = check_text x; status = check_status x }
+answer_message (answer.Report x) = record { text = report_text x; status = report_status x }
 answer_message (answer.Solve x) = record { text = solve_text x; status = solve_status x }
 answer_message (answer.UValue x) = record { text = uvalue_text x; status = uvalue_status x }

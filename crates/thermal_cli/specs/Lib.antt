@@ -3,6 +3,7 @@ pub mod Words
 pub mod Details
 pub mod Messages
 pub mod Check
+pub mod Report
 pub mod Solve
 pub mod UValue
 pub mod Answers

@@ -12,7 +12,9 @@ use Rattle.thermal_cli.specs.declared.told.Told.{Told}
 use Rattle.thermal_cli.specs.declared.told.Told.TheVariants.{Usage, NoMemory, SourceFault, TooLong, Answered}
 use Rattle.thermal_cli.specs.declared.words.Command.{Command}
 use Rattle.thermal_cli.specs.Answers.{Answers, answer_message}
-use Rattle.thermal_cli.specs.Check.{CheckAnswers, check_text}
+use Rattle.tb_report.specs.Sound.{HasSoundFigures}
+use Rattle.tb_report.specs.Texts as report
+use Rattle.thermal_cli.specs.Check.{Accepts, CheckAnswers, check_text}
 use Rattle.thermal_cli.specs.Messages.{Message, Tells}
 use Rattle.thermal_cli.specs.Words.{HasReading, Names}
 
@@ -73,3 +75,9 @@ IsAnswered words left_old left_new holds_old holds_new s =
 abbrev pub TellsAccepted : (left_old left_new holds_old holds_new : Option (List ℕ)) → Type 0
 TellsAccepted left_old left_new holds_old holds_new =
     (bytes : List ℕ) × IsRead left_old left_new bytes × (b : Bundle) × CheckAnswers bytes (Accepted b) × Adds holds_old holds_new (check_text (Accepted b))
+
+-- the source was read to its end, `check` accepts its bytes as a bundle, and its report was written, of which all figures
+-- are sound
+abbrev pub TellsReport : (left_old left_new holds_old holds_new : Option (List ℕ)) → Type 0
+TellsReport left_old left_new holds_old holds_new =
+    (bytes : List ℕ) × IsRead left_old left_new bytes × (b : Bundle) × Accepts bytes b × HasSoundFigures b × Adds holds_old holds_new (report.report_text b)

@@ -8,6 +8,7 @@ ghost use Rattle.thermal_cli.specs.Words.{HasRanges};
 use crate::Status;
 use crate::check::{CheckAnswer, check};
 use crate::message::tell_text;
+use crate::report::{ReportAnswer, report};
 use crate::solve::{SolveAnswer, solve};
 use crate::uvalue::{UValueAnswer, uvalue};
 use crate::words::Command;
@@ -16,9 +17,10 @@ use tb_outside::Sink;
 use tb_records::NoMemory;
 
 /// What a command answers to its input.
-#[derive(Debug, Drop)]
+#[derive(Drop)]
 pub enum Answer {
     Check(CheckAnswer),
+    Report(ReportAnswer),
     Solve(SolveAnswer),
     UValue(UValueAnswer),
 }
@@ -31,6 +33,7 @@ pub fn answer_to(alloc: Global, command: Command, bytes: &[u8]) -> Result<Answer
 {
     match command {
         Command::Check => Ok(Answer::Check(check(alloc, bytes)?)),
+        Command::Report => Ok(Answer::Report(report(alloc, bytes)?)),
         Command::Solve(options) => Ok(Answer::Solve(solve(alloc, options, bytes)?)),
         Command::UValue => Ok(Answer::UValue(uvalue(alloc, bytes)?)),
     }
@@ -42,6 +45,7 @@ pub fn tell_answer<K: Sink>(sink: &mut K, answer: &Answer) -> Status
 {
     match answer {
         Answer::Check(answer) => tell_text(sink, answer, answer.status()),
+        Answer::Report(answer) => tell_text(sink, answer, answer.status()),
         Answer::Solve(answer) => tell_text(sink, answer, answer.status()),
         Answer::UValue(answer) => tell_text(sink, answer, answer.status()),
     }

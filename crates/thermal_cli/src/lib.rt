@@ -8,6 +8,7 @@
 mod answer;
 mod check;
 mod message;
+mod report;
 mod solve;
 mod status;
 mod told;
@@ -17,6 +18,7 @@ mod words;
 
 pub use answer::Answer;
 pub use check::CheckAnswer;
+pub use report::ReportAnswer;
 pub use solve::SolveAnswer;
 pub use status::Status;
 pub use told::Told;

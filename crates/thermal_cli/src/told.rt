@@ -8,7 +8,7 @@ use crate::message::{Line, tell_text};
 use tb_outside::Sink;
 
 /// What a run tells.
-#[derive(Debug, Drop)]
+#[derive(Drop)]
 pub enum Told {
     /// The words have no reading.
     Usage,

@@ -3,7 +3,7 @@ ghost use Rattle.std.specs.Prelude.{◌≡◌, ◌⊎◌, ◌+◌, ◌<◌, ◌�
 ghost use Rattle.tb_outside.specs.Faults.{Rose, Stands};
 ghost use Rattle.tb_outside.specs.Limits.{most_input_bytes};
 ghost use Rattle.tb_outside.specs.Outside.{Adds, TakesExactly};
-ghost use Rattle.thermal_cli.specs.Outcome.{IsAnswered, IsInterrupted, IsOutcome, Runs, TellsAccepted, TellsOf, WritesFrontOfOne};
+ghost use Rattle.thermal_cli.specs.Outcome.{IsAnswered, IsInterrupted, IsOutcome, Runs, TellsAccepted, TellsOf, TellsReport, WritesFrontOfOne};
 ghost use Rattle.thermal_cli.specs.Words.{HasReading, Names};
 ghost use Rattle.thermal_cli.specs.declared.words.Command.{Command};
 
@@ -38,10 +38,11 @@ fn work<S: Source>(alloc: Global, words: &[String], source: &mut S) -> Told
 
 /// Runs the program on these words, which don't begin with the program's name.
 ///
-/// `check` reads a bundle from the source, and writes the intervals that it certifies. `solve` reads a detail and tells
+/// `check` reads a bundle from the source, and writes the intervals that it certifies. `report` reads a bundle too, and
+/// writes the figures that follow from them: coupling coefficients, U-values, Ψ and χ. `solve` reads a detail and tells
 /// its first fault, that of its body, or why its level grid is too large; solving comes later, so any other body is
-/// refused as not built. `uvalue` reads a detail, and writes the U-values of its parts. `check` and `uvalue` are the
-/// only word; behind `solve` stand its options, each a name and a value: `--width`, `--grade`, `--halve`, `--sweeps`.
+/// refused as not built. `uvalue` reads a detail, and writes the U-values of its parts. `check`, `report` and `uvalue`
+/// are the only word; behind `solve` stand its options, each a name and a value: `--width`, `--grade`, `--halve`, `--sweeps`.
 /// Where the input is refused, one line says why (`docs/FORMATS.md`). All memory is taken before the first byte is
 /// written.
 pub fn run<S: Source, K: Sink>(
@@ -91,8 +92,14 @@ pub fn run<S: Source, K: Sink>(
     // each is sound on every refinement of the body.
     ensures certified { result ≡ Status.Fine → Names (map string_bytes words.now) Command.Check
         → TellsAccepted (S.left source.old) (S.left source.new) (K.holds sink.old) (K.holds sink.new) }
+
+    // So are those of a report; the coupling coefficients, Ψ and χ that are made of them are sound too.
+    ensures reported { result ≡ Status.Fine → Names (map string_bytes words.now) Command.Report
+        → TellsReport (S.left source.old) (S.left source.new) (K.holds sink.old) (K.holds sink.new) }
+
+    // CertificateRefused comes only of `check` and `report`, and tells the first fault of the bundle.
     ensures certificate_refused { result ≡ Status.CertificateRefused
-        → Names (map string_bytes words.now) Command.Check
+        → (Names (map string_bytes words.now) Command.Check ⊎ Names (map string_bytes words.now) Command.Report)
         × IsAnswered (map string_bytes words.now) (S.left source.old) (S.left source.new)
         (K.holds sink.old) (K.holds sink.new) Status.CertificateRefused }
 {

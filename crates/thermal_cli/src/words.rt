@@ -9,6 +9,8 @@ use tb_options::{SolveOptions, read_options};
 pub enum Command {
     /// Reads a bundle, and writes the interval that it certifies.
     Check,
+    /// Reads a bundle, and writes the figures that it certifies.
+    Report,
     /// Reads a detail, and will write the bundle that certifies its coefficients.
     Solve(SolveOptions),
     /// Reads a detail, and writes the U-values of its parts.
@@ -43,6 +45,9 @@ fn command_with(word: &str, rest: &[String]) -> Option<Command>
     }
     if word == "check" {
         return Some(Command::Check);
+    }
+    if word == "report" {
+        return Some(Command::Report);
     }
     if word == "uvalue" {
         return Some(Command::UValue);

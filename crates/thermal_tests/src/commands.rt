@@ -19,7 +19,7 @@ solid,wall,0.1,200.1,0,1000,0,1000\n\
 air,inside,0.13,0,0.1,0,1000,0,1000\nair,outside,0.04,200.1,200.2,0,1000,0,1000\n\n";
 
 // The words, the exit code and the text that are to be told, and what stands in the place of some lines of the bundle,
-// or for words other than `check` of the detail. A semicolon is the end of a line.
+// or for words other than `check` and `report` of the detail. A semicolon is the end of a line.
 const CASES: &str = "\
 check|0 accepted,inside,2702702702702700,2702702702702704;end;\n\
 check|0 accepted,inside,0,7692307692307693;end;|13:t,0,0,0,0|14:t,0,0,0,0|15:t,0,0,0,0|16:t,0,0,0,0|18:fx,0,0,0,0|22:interval,0,7692307692307693|23:verdict,sweeps,0\n\
@@ -65,6 +65,14 @@ check|7 refused,ValueOutOfRange,record 23 field 3;|23:verdict,grid,1000000001\n\
 check|7 refused,Shape,record 24;|24:END\n\
 check|7 refused,Shape,record 25;|24:end;end\n\
 check|0 accepted,inside,2702702702702700,2702702702702704;end;|24:end;# a remark\n\
+report|0 report,1;case,inside,2.702702,2.702703,grid;L3D,inside,outside,2.702702,2.702703;factor,inside,inside,0.64864865,0.64864865,grid value no bound;factor,inside,outside,0.10810811,0.10810811,grid value no bound;end;\n\
+report|0 report,1;case,inside,2.702702,2.702703,grid;L2D,inside,outside,2.702702,2.702703;U,wall,2.702702,2.702703;psi,short,-0.000001,0.000001;psi,long,-0.540541,-0.540540;factor,inside,inside,0.64864865,0.64864865,grid value no bound;factor,inside,outside,0.10810811,0.10810811,grid value no bound;end;|2:detail,1,2|6:solid,wall,0.1,200.1,0,1000|7:air,inside,0.13,0,0.1,0,1000|8:air,outside,0.04,200.1,200.2,0,1000;part,wall,0.13,0.04;layer,wall,200,wall;psi,short,inside,outside;length,short,wall,1000;psi,long,inside,outside;length,long,wall,1200\n\
+report|0 report,1;case,inside,2.702702,2.702703,grid;L3D,inside,outside,2.702702,2.702703;U,wall,2.702702,2.702703;chi,corner,-0.060001,-0.049999;factor,inside,inside,0.64864865,0.64864865,grid value no bound;factor,inside,outside,0.10810811,0.10810811,grid value no bound;end;|8:air,outside,0.04,200.1,200.2,0,1000,0,1000;part,wall,0.13,0.04;layer,wall,200,wall;chi,corner,inside,outside;area,corner,wall,1;line,corner,0.05,0.06,1000\n\
+report|0 report,1;case,inside,0.000000,7.692308,sweeps;L3D,inside,outside,0.000000,7.692308;factor,inside,inside,0.00000000,0.00000000,grid value no bound;factor,inside,outside,0.00000000,0.00000000,grid value no bound;end;|13:t,0,0,0,0|14:t,0,0,0,0|15:t,0,0,0,0|16:t,0,0,0,0|18:fx,0,0,0,0|22:interval,0,7692307692307693|23:verdict,sweeps,0\n\
+report|1 refused,RatioAbove,part edge;|8:air,outside,0.04,200.1,200.2,0,1000,0,1000;mat,a,3.5;mat,b,0.0999;part,wall,0.13,0.04;layer,wall,200,wall;part,edge,0.11,0.04,1,1;layer,edge,70,a,b;part,next,0.11,0.04,1,1;layer,next,70,a,b\n\
+report|7 refused,IntervalDiffers,case 1 claimed 2702702702702701 2702702702702704 found 2702702702702700 2702702702702704;|8:air,outside,0.04,200.1,200.2,0,1000,0,1000;mat,a,3.5;mat,b,0.0999;part,wall,0.13,0.04;layer,wall,200,wall;part,edge,0.11,0.04,1,1;layer,edge,70,a,b;part,next,0.11,0.04,1,1;layer,next,70,a,b|22:interval,2702702702702701,2702702702702704\n\
+report|7 refused,Overlap,boxes 1 2;|7:air,inside,0.13,0,0.2,0,1000,0,1000\n\
+report|7 refused,NotFormat,record 1;|1:bundle,2\n\
 uvalue|0 end;\n\
 uvalue|0 end;|4:mat,wall,500\n\
 uvalue|1 refused,BadNumber,record 4 field 3;|4:mat,wall,0.00001\n\
@@ -98,12 +106,19 @@ uvalue --grade 1|2 refused,Usage;\n\
 chec|2 refused,Usage;\n\
 check check|2 refused,Usage;\n\
 Check|2 refused,Usage;\n\
+report report|2 refused,Usage;\n\
+reports|2 refused,Usage;\n\
 uvalues|2 refused,Usage;\n\
 solv|2 refused,Usage;\n\
 --help|2 refused,Usage;";
 
 // What a run tells of words and these bytes into a sink with this room: the exit code, a space and the text.
-fn told(alloc: Global, text: &str, bytes: Vec<u8>, room: usize) -> Result<Vec<u8>, AllocError> {
+pub(crate) fn told(
+    alloc: Global,
+    text: &str,
+    bytes: Vec<u8>,
+    room: usize,
+) -> Result<Vec<u8>, AllocError> {
     let mut words = Vec::new(alloc);
     for word in text.split_ascii_whitespace() {
         words.push(String::from_str(alloc, word)?)?;
@@ -140,7 +155,11 @@ fn change<'a>(changes: &'a str, number: usize) -> Option<&'a str> {
 }
 
 fn input(alloc: Global, word: &str, changes: &str) -> Result<Vec<u8>, AllocError> {
-    let example = if word == "check" { BUNDLE } else { DETAIL };
+    let example = if word == "check" || word == "report" {
+        BUNDLE
+    } else {
+        DETAIL
+    };
     let mut text = Vec::new(alloc);
     for (number, line) in example.lines().enumerate() {
         append(&mut text, change(changes, number + 1).unwrap_or(line))?;

@@ -15,4 +15,6 @@ mod grids;
 #[cfg(test)]
 mod repairs;
 #[cfg(test)]
+mod reports;
+#[cfg(test)]
 mod walls;

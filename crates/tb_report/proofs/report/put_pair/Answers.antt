@@ -3,7 +3,8 @@ use Rattle.std.proofs.lemmas.Bool.Decides.{nat_tests}
 use Rattle.std.specs.Prelude.{codes, nat_lt}
 use Rattle.tb_detail.specs.declared.Environment.{Environment}
 use Rattle.tb_outside.proofs.Gathered.{gathers_both, gathers_same}
-use Rattle.tb_report.specs.Texts.{coefficient_word, name_of}
+use Rattle.tb_checker.specs.Texts.{name_of}
+use Rattle.tb_report.specs.Texts.{coefficient_word}
 use Rattle.tb_report.specs.Values.{pair_interval}
 use Rattle.tb_report.proofs.Gathering.{four_pieces}
 use Rattle.tb_report.proofs.report.put_pair.Goals as goal

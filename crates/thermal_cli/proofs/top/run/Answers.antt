@@ -6,7 +6,7 @@ use Rattle.thermal_cli.specs.declared.status.Status.TheVariants as status
 use Rattle.thermal_cli.specs.declared.words.Command.{Command}
 use Rattle.thermal_cli.specs.Outcome.{IsInterrupted, Runs, TellsOf}
 use Rattle.thermal_cli.specs.Words.{HasReading, Names}
-use Rattle.thermal_cli.proofs.Runs.{answered, certificate_refused, certified, fine, no_memory, no_reading, refused, sink_fault, sink_faults_told, source_fault, source_faults_told, too_long, usage_words}
+use Rattle.thermal_cli.proofs.Runs.{answered, certificate_refused, certified, fine, no_memory, no_reading, refused, reported, sink_fault, sink_faults_told, source_fault, source_faults_told, too_long, usage_words}
 use Rattle.thermal_cli.proofs.top.run.Goals as goal
 
 known : {A : Type 0} (P : A → Type 0) (o : Option A) → ((x : A) → o ≡ Some x → P x) → IfSome o P
@@ -39,5 +39,6 @@ returns g c =
       answered = known (λ bytes. (d : Command) → Names w d → length bytes ≤ most_input_bytes → IsInterrupted s ⊎ TellsOf d bytes (holds k) (holds l) s) (left a) (λ bytes t d h m. answered left f holds e w a b k l bytes t s d h m r);
       fine = λ p. fine left f holds e w a b k l s p r;
       certified = λ p q. certified left f holds e w a b k l s p q r;
+      reported = λ p q. reported left f holds e w a b k l s p q r;
       certificate_refused = λ p. certificate_refused left f holds e w a b k l s p r;
     }
