@@ -2,3 +2,6 @@ pub mod Ranges
 pub mod Rounds
 pub mod InnerEdges
 pub mod Passes
+pub mod Staying
+pub mod PassMoves
+pub mod Settlement

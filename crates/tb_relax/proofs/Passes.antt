@@ -19,23 +19,23 @@ use Rattle.tb_relax.specs.Passes.{IsTableOf}
 use Rattle.tb_relax.specs.Rounds.{counts_at}
 use Rattle.tb_relax.specs.Tables.{AreNodeMoves, field_forms, flux_forms, table_counts}
 
-abbrev IsFieldMove : Table → Move → List ℤ → List ℤ → Type 0
+abbrev pub IsFieldMove : Table → Move → List ℤ → List ℤ → Type 0
 IsFieldMove t (Node p) old new = IsFormMove (field_forms t) (node_number (table_counts t) p) old new
 IsFieldMove t (Loop axis e) old new = ⊥
 
-abbrev state : List ℤ → List ℤ → State
+abbrev pub state : List ℤ → List ℤ → State
 state field flux = record { field = field; flux = flux }
 
 module _ (m : Mesh) (inside : Case) (t : Table) (of : IsTableOf m inside t) where
-  same_counts : table_counts t ≡ m.cells
+  pub same_counts : table_counts t ≡ m.cells
   unfolding field_forms
   same_counts = of.field.cells
 
-  on_field : (flux : List ℤ) (move : Move) (old new : List ℤ) → IsFieldMove t move old new → IsMove m inside move (state old flux) (state new flux)
+  pub on_field : (flux : List ℤ) (move : Move) (old new : List ℤ) → IsFieldMove t move old new → IsMove m inside move (state old flux) (state new flux)
   on_field flux (Node p) old new h = (subst (λ (n : Counts). IsNodeMove m inside (node_number n p) old new) same_counts (node_move m inside (field_forms t) (node_number (table_counts t) p) old new of.field h), refl)
   on_field flux (Loop axis e) old new h = absurd h
 
-  on_flux : (field : List ℤ) (move : Move) (old new : List ℤ) → IsFluxMove t move old new → IsMove m inside move (state field old) (state field new)
+  pub on_flux : (field : List ℤ) (move : Move) (old new : List ℤ) → IsFluxMove t move old new → IsMove m inside move (state field old) (state field new)
   on_flux field (Node p) old new h = absurd h
   on_flux field (Loop axis e) old new h = (loop_move m inside (flux_forms t) (counts_at t) axis e old new of.flux of.counts h, refl)
 

@@ -5,3 +5,4 @@ pub mod Joining
 pub mod Rounds
 pub mod Edges
 pub mod Passes
+pub mod Settled

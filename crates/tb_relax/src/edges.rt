@@ -13,7 +13,7 @@ use tb_grid::{AxisName, Place};
 
 // The first edge along an axis that is inside the hull.
 #[inline(always)]
-fn first_inside(axis: AxisName) -> Place
+pub(crate) fn first_inside(axis: AxisName) -> Place
     ensures { result ≡ first_edge axis }
 {
     match axis {

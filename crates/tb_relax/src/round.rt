@@ -1,11 +1,12 @@
 // Moves round an edge.
-ghost use Rattle.std.specs.Prelude.{◌≡◌, ◌≢◌, ◌↔◌, ℕ, ◌-◌, ◌*◌, ◌^◌, ◌≤◌, IsTrue, length, ℤ, neg_ℤ, ◌+ℤ◌, unsigned_abs};
+ghost use Rattle.std.specs.Prelude.{◌≡◌, ◌≢◌, ◌↔◌, ℕ, ◌-◌, ◌*◌, ◌^◌, ◌≤◌, IsFalse, IsTrue, length, ℤ, neg_ℤ, ◌+ℤ◌, unsigned_abs};
 ghost use Rattle.tb_places.specs.declared.AxisName.{AxisName};
 ghost use Rattle.tb_places.specs.Places.{face_count};
 ghost use Rattle.tb_weighted.specs.FlowMoves.{IsFlowMove, loop_where, put_where};
 ghost use Rattle.tb_weighted.specs.Limits.{IsFlux};
 ghost use Rattle.tb_weighted.specs.Moves.{IsInnerEdge, round_edge};
 ghost use Rattle.tb_relax.specs.Rounds.{ArePartsOf, AreRound, counts_at, number_of, round_change, round_flows};
+ghost use Rattle.tb_relax.specs.Settled.{FlowMoves, FlowStays, loop_on};
 ghost use Rattle.tb_relax.specs.Sites.{IsSite};
 ghost use Rattle.tb_relax.specs.Tables.{IsTable, flux_forms, table_counts};
 
@@ -128,5 +129,29 @@ impl Table<'_> {
         ensures kept { IsFlux (table_counts self.now) flows.new }
     {
         self.relax_round(flows, self.faces_round(axis, edge))
+    }
+
+    // Whether what goes round changes the flux.
+    fn round_moves(&self, flows: &[i64], round: Round) -> bool
+        requires table { IsTable self.now }
+        requires flux { IsFlux (table_counts self.now) flows.now }
+        requires round { AreRound (table_counts self.now) round }
+        ensures moves { IsTrue result → FlowMoves self.now flows.now (round_change self.now round) }
+        ensures stays { IsFalse result → FlowStays self.now flows.now (round_change self.now round) }
+    {
+        let parts = self.parts(flows, round);
+        let step = multiple(parts);
+        step != 0
+    }
+
+    /// Whether the move of the loop of an edge inside the hull changes the flux. It writes nothing.
+    pub fn loop_moves(&self, flows: &[i64], axis: AxisName, edge: Place) -> bool
+        requires table { IsTable self.now }
+        requires flux { IsFlux (table_counts self.now) flows.now }
+        requires edge { IsInnerEdge (table_counts self.now) axis edge }
+        ensures moves { IsTrue result → FlowMoves self.now flows.now (loop_on self.now axis edge) }
+        ensures stays { IsFalse result → FlowStays self.now flows.now (loop_on self.now axis edge) }
+    {
+        self.round_moves(flows, self.faces_round(axis, edge))
     }
 }

@@ -1,3 +1,5 @@
 pub mod Weights
 pub mod MeshRows
+pub mod Sharing
 pub mod Filled
+pub mod Whole

@@ -4,8 +4,11 @@
 //! conductivity and size share a row, and so do surfaces ([`rows`]).
 #![tactic(auto)]
 
+pub mod cell_table;
 pub mod cells;
+pub mod face_table;
 pub mod faces;
 pub mod laws;
 pub mod rows;
 pub mod weights;
+pub mod whole;
