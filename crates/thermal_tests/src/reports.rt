@@ -101,6 +101,10 @@ fn a_run_reports_three_environments(rt: HostRuntime) -> Result<(), Fail> {
 
 // Whether the report of this bundle is this one.
 fn is_reported(alloc: Global, bundle: &[u8], report: &[u8]) -> bool {
+    // No bundle of a test is longer.
+    if bundle.len() > 10_000 {
+        return false;
+    }
     let Ok(checked) = check(alloc, bundle) else {
         return false;
     };
