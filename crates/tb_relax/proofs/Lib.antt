@@ -5,3 +5,4 @@ pub mod Passes
 pub mod Staying
 pub mod PassMoves
 pub mod Settlement
+pub mod RoundFlows
