@@ -6,3 +6,4 @@ pub mod Staying
 pub mod PassMoves
 pub mod Settlement
 pub mod RoundFlows
+pub mod Balance
