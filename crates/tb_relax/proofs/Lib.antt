@@ -5,3 +5,5 @@ pub mod Passes
 pub mod Staying
 pub mod PassMoves
 pub mod Settlement
+pub mod RoundFlows
+pub mod Balance

@@ -6,3 +6,4 @@ pub mod Rounds
 pub mod Edges
 pub mod Passes
 pub mod Settled
+pub mod Balance

@@ -8,6 +8,7 @@
 mod edges;
 mod flow;
 mod joining;
+pub mod laws;
 mod loops;
 mod node;
 mod part;
