@@ -1,5 +1,5 @@
 -- The figures of a checked bundle are sound.
-use Rattle.std.proofs.Common.{◌≢◌, subst, ℕ, zero, suc, ◌+◌, ◌<◌, ◌≤◌, List, [], ◌∷◌, length, get_or, map, arith, All, inl, inr}
+use Rattle.std.proofs.Common.{◌≡◌, ◌≢◌, refl, subst, ℕ, zero, suc, ◌+◌, ◌<◌, ◌≤◌, List, [], ◌∷◌, length, get_or, map, arith, All, true, false, inl, inr}
 use Rattle.std.specs.Prelude.{nat_lt, slice_index, slice_index_or}
 use Rattle.std.proofs.lemmas.Bool.{cases_Bool}
 use Rattle.std.proofs.lemmas.Bool.Decides.{nat_tests}
@@ -15,7 +15,7 @@ use Rattle.tb_conduct.specs.Coupling.{AreSound, IsSoundPair}
 use Rattle.tb_conduct.specs.Pairs.{highest, lowest, no_heat}
 use Rattle.tb_conduct.proofs.Halves.{pair_sound}
 use Rattle.tb_case_records.specs.declared.case.CaseProof.{CaseProof}
-use Rattle.tb_bundle.specs.Bodies.{case_forms_from}
+use Rattle.tb_bundle.specs.Bodies.{case_form, case_forms_from}
 use Rattle.tb_bundle.specs.Limits.{CasesInLimits}
 use Rattle.tb_bundle.specs.declared.bundle.Bundle.{Bundle}
 use Rattle.tb_checker.specs.Contents.{AreCertified, IsCertifiedCase}
