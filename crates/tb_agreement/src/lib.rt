@@ -3,4 +3,4 @@
 
 mod laws;
 
-pub use laws::checked_bundles_are_written_without_fault;
+pub use laws::{checked_bundles_are_written_without_fault, first_faults_are_one};
