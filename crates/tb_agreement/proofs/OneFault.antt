@@ -109,17 +109,35 @@ module _ (m : Mesh) (q : Flux) where
 
 module _ (d : Detail) where
   module _ (n : ℕ) (c : CaseProof) where
-    one_outer : FindsOne (OrAt (ShutsOff (mesh_of d c) (flux_in c)) (λ (face : FaceId). IsFirstOuter (mesh_of d c) (flux_in c) face.0) (λ face. check.OuterFlux n face))
-    one_outer = one_at (ShutsOff (mesh_of d c) (flux_in c)) (λ (face : FaceId). IsFirstOuter (mesh_of d c) (flux_in c) face.0) (λ face. check.OuterFlux n face)
-        (λ f g h k. ap (λ (x : ℕ). check.OuterFlux n (record { 0 = x })) (outer_number (mesh_of d c) (flux_in c) f.0 g.0 h k))
-        (λ f shut h. outer_is_not_shut (mesh_of d c) (flux_in c) f.0 shut h)
+    abbrev mesh : Mesh
+    mesh = mesh_of d c
 
-    one_loss : FindsOne (OrAt (KeepsHeat (mesh_of d c) (flux_in c)) (λ (cell : CellId × ℤ). IsFirstUnbalanced (mesh_of d c) (flux_in c) cell.0.0 cell.1) (λ cell. check.Unbalanced n cell.0 cell.1))
-    one_loss = one_at (KeepsHeat (mesh_of d c) (flux_in c)) (λ (cell : CellId × ℤ). IsFirstUnbalanced (mesh_of d c) (flux_in c) cell.0.0 cell.1) (λ cell. check.Unbalanced n cell.0 cell.1)
+    abbrev flux : Flux
+    flux = flux_in c
+
+    abbrev IsOuter : FaceId → Type 0
+    IsOuter face = IsFirstOuter mesh flux face.0
+
+    abbrev told_outer : FaceId → CheckFault
+    told_outer face = check.OuterFlux n face
+
+    abbrev IsLost : CellId × ℤ → Type 0
+    IsLost cell = IsFirstUnbalanced mesh flux cell.0.0 cell.1
+
+    abbrev told_loss : CellId × ℤ → CheckFault
+    told_loss cell = check.Unbalanced n cell.0 cell.1
+
+    one_outer : FindsOne (OrAt (ShutsOff mesh flux) IsOuter told_outer)
+    one_outer = one_at (ShutsOff mesh flux) IsOuter told_outer
+        (λ f g h k. ap (λ (x : ℕ). told_outer (record { 0 = x })) (outer_number mesh flux f.0 g.0 h k))
+        (λ f shut h. outer_is_not_shut mesh flux f.0 shut h)
+
+    one_loss : FindsOne (OrAt (KeepsHeat mesh flux) IsLost told_loss)
+    one_loss = one_at (KeepsHeat mesh flux) IsLost told_loss
         (λ f g h k.
-        ap (λ (x : ℕ). check.Unbalanced n (record { 0 = x }) f.1) (loss_number (mesh_of d c) (flux_in c) f.0.0 g.0.0 f.1 g.1 h k)
-        ∙ ap (λ (sum : ℤ). check.Unbalanced n g.0 sum) (loss_sum (mesh_of d c) (flux_in c) f.0.0 g.0.0 f.1 g.1 h k))
-        (λ f keeps h. loss_is_no_heat_kept (mesh_of d c) (flux_in c) f.0.0 f.1 keeps h)
+        ap (λ (x : ℕ). check.Unbalanced n (record { 0 = x }) f.1) (loss_number mesh flux f.0.0 g.0.0 f.1 g.1 h k)
+        ∙ ap (λ (sum : ℤ). check.Unbalanced n g.0 sum) (loss_sum mesh flux f.0.0 g.0.0 f.1 g.1 h k))
+        (λ f keeps h. loss_is_no_heat_kept mesh flux f.0.0 f.1 keeps h)
 
     one_claim : FindsOne (OfClaims n c (ends_of d c))
     one_claim = one_in_turn (Or (c.interval ≡ ends_of d c) (check.IntervalDiffers n c.interval (ends_of d c))) (Or (IsJudgedRightly c) (check.VerdictDiffers n))
@@ -130,11 +148,8 @@ module _ (d : Detail) where
 
     one_case : FindsOne (OfCase d n c)
     unfolding OfCase
-    one_case = one_in_turn
-        (OrAt (ShutsOff (mesh_of d c) (flux_in c)) (λ (face : FaceId). IsFirstOuter (mesh_of d c) (flux_in c) face.0) (λ face. check.OuterFlux n face))
-        (InTurn (OrAt (KeepsHeat (mesh_of d c) (flux_in c)) (λ (cell : CellId × ℤ). IsFirstUnbalanced (mesh_of d c) (flux_in c) cell.0.0 cell.1) (λ cell. check.Unbalanced n cell.0 cell.1)) (OfEnds d n c))
-        one_outer
-        (one_in_turn (OrAt (KeepsHeat (mesh_of d c) (flux_in c)) (λ (cell : CellId × ℤ). IsFirstUnbalanced (mesh_of d c) (flux_in c) cell.0.0 cell.1) (λ cell. check.Unbalanced n cell.0 cell.1)) (OfEnds d n c) one_loss one_end)
+    one_case = one_in_turn (OrAt (ShutsOff mesh flux) IsOuter told_outer) (InTurn (OrAt (KeepsHeat mesh flux) IsLost told_loss) (OfEnds d n c)) one_outer
+        (one_in_turn (OrAt (KeepsHeat mesh flux) IsLost told_loss) (OfEnds d n c) one_loss one_end)
 
   one_of_cases : (fs : List CaseForm) (given : List Numbered) → FindsOne (OfCases d fs given)
   one_of_cases [] given = one_of_records None
