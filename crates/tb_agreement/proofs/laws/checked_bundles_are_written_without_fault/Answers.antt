@@ -5,11 +5,8 @@ use Rattle.tb_agreement.proofs.Accepted.{read_accepted}
 use Rattle.tb_agreement.proofs.Determined.{accepted}
 use Rattle.tb_agreement.proofs.laws.checked_bundles_are_written_without_fault.Goals as goal
 
-pub returns-clause-read : goal.returns-clause-read
-returns-clause-read c = read_accepted
-
-pub returns-clause-written : goal.returns-clause-written
-returns-clause-written c = λ bundle certified. read_accepted (records_of (bundle_text bundle)) bundle (text_back bundle certified.limits) certified
+pub returns-clause-faultless : goal.returns-clause-faultless
+returns-clause-faultless c = λ bundle certified. read_accepted (records_of (bundle_text bundle)) bundle (text_back bundle certified.limits) certified
 
 pub returns-clause-same : goal.returns-clause-same
 returns-clause-same c = λ bundle certified. text_back bundle certified.limits
