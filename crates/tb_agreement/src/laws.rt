@@ -27,7 +27,8 @@ pub fn first_faults_are_one()
 {}
 
 /// The canonical text of a certified bundle has no fault, and reads as this bundle. So what the checker accepted is
-/// accepted again once it is written, except for want of memory.
+/// accepted again once it is written, except for want of memory. That the text is no longer than an input may be isn't
+/// said.
 pub fn checked_bundles_are_written_without_fault()
     ensures faultless { (bundle : Bundle) → AreCertified bundle → FirstFault (records_of (bundle_text bundle)) None }
     ensures same { (bundle : Bundle) → AreCertified bundle → bundle_reading (records_of (bundle_text bundle)) ≡ Ok bundle }
