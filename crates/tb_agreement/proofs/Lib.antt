@@ -1,0 +1,4 @@
+pub mod Accepted
+pub mod Faultless
+pub mod OneFault
+pub mod Determined
