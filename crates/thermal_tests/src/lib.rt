@@ -13,6 +13,8 @@ mod faults;
 #[cfg(test)]
 mod grids;
 #[cfg(test)]
+mod passes;
+#[cfg(test)]
 mod repairs;
 #[cfg(test)]
 mod reports;
