@@ -1,6 +1,7 @@
 pub mod Digits
 pub mod FixedReadBack
 pub mod Divisions
+pub mod NoPlaces
 pub mod Padded
 pub mod Powers
 pub mod QuotientLaws

@@ -17,6 +17,9 @@ pub enum NumberFault {
 // Above every limit that a decimal may have.
 const DECIMAL_CAP: u64 = 10_000_000_000_000_000;
 
+// The most digits of a number that is surely below that.
+const SHORT_DIGITS: usize = 16;
+
 // Above every number of 38 digits, so that a longer text can be read without an overflow.
 const DIGITS_CAP: u128 = 100_000_000_000_000_000_000_000_000_000_000_000_000;
 
@@ -63,13 +66,32 @@ fn with_short_digit(number: u64, digit: u8) -> u64
     (number * 10 + u64::from(digit)).min(DECIMAL_CAP)
 }
 
+// The number that one to 16 digits write. None is at the cap of decimals, so no step tests for it.
+fn short_digits(text: &[u8]) -> Option<u64>
+    requires { length text.now ≤ 16 }
+    ensures value { result ≡ (if is_number text.now then Some (digits_value 10 text.now) else None) }
+    ensures small { IfSome result (λ n. n < 10 ^ 16) }
+{
+    if text.is_empty() {
+        return None;
+    }
+    let mut number: u64 = 0;
+    for byte in text {
+        if !byte.is_ascii_digit() {
+            return None;
+        }
+        number = number * 10 + u64::from(*byte - b'0');
+    }
+    Some(number)
+}
+
 // The number that one digit or more write, or the cap of decimals where it isn't below that.
 fn capped_digits(text: &[u8]) -> Option<u64>
     ensures value { result ≡ (if is_number text.now then Some (min (digits_value 10 text.now) (10 ^ 16)) else None) }
     ensures small { IfSome result (λ n. n ≤ 10 ^ 16) }
 {
-    if text.is_empty() {
-        return None;
+    if text.len() <= SHORT_DIGITS {
+        return short_digits(text);
     }
     let mut number: u64 = 0;
     for byte in text {
@@ -114,11 +136,15 @@ fn capped_parts(whole: &[u8], fraction: &[u8], places: u8) -> Option<u64>
 }
 
 // The decimal that a text writes, or the cap where it isn't below that.
-#[tactic(auto, unfolding(crate::specs::Reading::decimal_reading))]
+#[tactic(auto, using(crate::proofs::NoPlaces::no_places), unfolding(crate::specs::Reading::decimal_reading))]
 fn capped_decimal(text: &[u8], places: u8) -> Option<u64>
     requires { places ≤ 8 }
     ensures { result ≡ option_map (λ n. min n (10 ^ 16)) (decimal_reading places text.now) }
 {
+    // Most values of a bundle are whole numbers, so these need no search for a point.
+    if places == 0 {
+        return capped_digits(text);
+    }
     match point_at(text) {
         None => capped_whole(text, places),
         Some(point) => capped_parts(&text[..point], &text[point + 1..], places),

@@ -53,6 +53,8 @@ fn decimals_at_the_limits(rt: HostRuntime) {
     assert_eq!(rt; parse_decimal(b"7", 0, 1, 7), Ok(7));
     assert_eq!(rt; parse_decimal(b"7.", 0, 1, 7), Err(BAD));
     assert_eq!(rt; parse_decimal(b"7.0", 0, 1, 7), Err(BAD));
+    assert_eq!(rt; parse_decimal(b"0000000000000007", 0, 1, 7), Ok(7));
+    assert_eq!(rt; parse_decimal(b"00000000000000007", 0, 1, 7), Ok(7));
     let most = 1_000_000_000_000_000;
     assert_eq!(rt; parse_decimal(b"10000000", 8, 0, most), Ok(most));
     assert_eq!(rt; parse_decimal(b"10000000.00000001", 8, 0, most), Err(OUT));
