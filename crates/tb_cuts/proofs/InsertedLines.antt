@@ -11,7 +11,8 @@ use Rattle.std.specs.List.Sorted.{IsStrictlyIncreasing}
 use Rattle.std.proofs.Math.Nat.{eq-or-lt_of_le}
 use Rattle.std.proofs.lemmas.List.{get_or_default}
 use Rattle.tb_places.specs.Cuts.{with_two}
-use Rattle.tb_model.specs.Merges.{with_line}
+use Rattle.tb_places.specs.Lines.{with_line}
+use Rattle.tb_places.proofs.Lines.{three_ways, with_line-before, with_line-at, with_line-behind}
 use Rattle.tb_places.proofs.CutLines.{two-before, two-first, two-second, two-after}
 
 pub below_or_not : (i p : ℕ) → (i ≤ p) ⊎ (p < i)
@@ -25,15 +26,6 @@ pub record Gap (xs : List ℕ) (q : ℕ) (ys : List ℕ) : Type 0 where
   pub high : q < get_or xs (suc p) 0
   pub longer : length ys ≡ suc (length xs)
   pub lines : (i : ℕ) → get_or ys i 0 ≡ with_two p (get_or xs p 0) q (λ n. get_or xs n 0) i
-
-pub with_line-before : (q x : ℕ) (xs : List ℕ) → q < x → with_line q (x ∷ xs) ≡ q ∷ x ∷ xs
-with_line-before q x xs h = grind arith
-
-pub with_line-at : (x : ℕ) (xs : List ℕ) → with_line x (x ∷ xs) ≡ x ∷ xs
-with_line-at x xs = grind arith
-
-pub with_line-behind : (q x : ℕ) (xs : List ℕ) → x < q → with_line q (x ∷ xs) ≡ x ∷ with_line q xs
-with_line-behind q x xs h = grind arith
 
 -- whether q is in the list, and where it is put
 abbrev pub Located : List ℕ → ℕ → Type 0
@@ -67,12 +59,6 @@ later_gap x q xs ys g = record {
     at : (i : ℕ) → get_or (x ∷ ys) i 0 ≡ with_two (suc g.p) (get_or (x ∷ xs) (suc g.p) 0) q (λ n. get_or (x ∷ xs) n 0) i
     at zero = refl
     at (suc i) = g.lines i
-
-pub rising_tail : (x : ℕ) (xs : List ℕ) → IsStrictlyIncreasing (x ∷ xs) → IsStrictlyIncreasing xs
-rising_tail x xs h k l = let e : suc k + 1 ≡ suc (k + 1) = omega arith in subst (λ n. get_or xs k 0 < get_or (x ∷ xs) n 0) e (h (suc k) (omega arith))
-
-pub three_ways : (q y : ℕ) → (q < y) ⊎ ((q ≡ y) ⊎ (y < q))
-three_ways q y = grind arith
 
 pub located : (x : ℕ) (xs : List ℕ) (q k : ℕ) → x < q → k < length (x ∷ xs) → q ≤ get_or (x ∷ xs) k 0 → Located (x ∷ xs) q
 located x xs q zero h l le = absurd (omega arith)

@@ -18,12 +18,14 @@ use Rattle.tb_model.specs.Refinement.{Scene, Refinement, Refines, low, high, mes
 use Rattle.tb_math.specs.Rational.{ℚ}
 use Rattle.tb_places.specs.Cuts.{on_axis}
 use Rattle.tb_model.specs.Cuts.{IsRatio, cut, cut_field, cut_flux}
-use Rattle.tb_model.specs.Merges.{with_line, with_lines, relined, rescaled, joined, merged, Carries}
+use Rattle.tb_places.specs.Lines.{with_line}
+use Rattle.tb_model.specs.Merges.{with_lines, relined, rescaled, joined, merged, Carries}
 use Rattle.tb_cuts.proofs.CutFields.{energy_kept}
 use Rattle.tb_cuts.proofs.CutFluxes.{bound_kept}
 use Rattle.tb_cuts.proofs.CutBalance.{balance_kept}
 use Rattle.tb_cuts.proofs.InsertedLines.{Gap, Located, located_from, rising_still, contains_still, contains_from}
-use Rattle.tb_cuts.proofs.JoinedLines.{contains_first, contains_later, with_lines-old, with_lines-new, with_lines-cases, rising_unique}
+use Rattle.tb_places.proofs.Lines.{contains_first, contains_later}
+use Rattle.tb_cuts.proofs.JoinedLines.{with_lines-old, with_lines-new, with_lines-cases, rising_unique}
 use Rattle.tb_cuts.proofs.CutMeshes.{gap_ratio, gap_ratio_is, mesh_cut}
 use Rattle.tb_cuts.proofs.Rescaling.{mesh_rescaled, refines_rescaled}
 

@@ -12,7 +12,8 @@ use Rattle.std.proofs.Math.Nat.{eq-or-lt_of_le}
 use Rattle.tb_math.specs.Rational.{ratio}
 use Rattle.tb_places.specs.declared.AxisName.{AxisName}
 use Rattle.tb_model.specs.Cuts.{cut}
-use Rattle.tb_model.specs.Merges.{with_line, relined}
+use Rattle.tb_places.specs.Lines.{with_line}
+use Rattle.tb_model.specs.Merges.{relined}
 use Rattle.tb_model.specs.Refinement.{Scene, Refinement, Refines, line, mesh}
 use Rattle.tb_cuts.proofs.CutMeshes.{mesh_cut, outside, parts_make}
 use Rattle.tb_cuts.proofs.InsertedLines.{Gap, Located, below_or_not, located_from}

@@ -1,10 +1,11 @@
 -- The base grid of a body: on each axis all box coordinates.
-use Rattle.std.specs.Prelude.{ℕ, nat_lt, if◌then◌else◌, List, [], ◌∷◌, ◌≡◌, Some}
+use Rattle.std.specs.Prelude.{ℕ, List, [], ◌∷◌, ◌≡◌, Some}
 use Rattle.std.specs.List.{Contains, flat_map}
 use Rattle.tb_places.specs.declared.AxisName.{AxisName}
 use Rattle.tb_places.specs.declared.AxisName.TheVariants.{X, Y, Z}
 use Rattle.tb_places.specs.declared.Place.{Place}
 use Rattle.tb_places.specs.Places.{Counts, IsCell, cell_number}
+use Rattle.tb_places.specs.Lines.{with_line}
 use Rattle.tb_places.specs.Ranges.{IsFirst}
 use Rattle.tb_detail.specs.declared.SpaceBox.{SpaceBox}
 use Rattle.tb_detail.specs.declared.Detail.{Detail}
@@ -13,13 +14,6 @@ use Rattle.tb_grid.specs.Grid.{Axes}
 use Rattle.tb_model.specs.Mesh.{Mesh}
 use Rattle.tb_model.specs.Refinement.{Refinement, low, high, line, mesh, scene_of}
 use Rattle.tb_geometry.specs.Cubes.{HoldsCube, IsHeld}
-
--- rising lines with one more at x, if there is none yet
-unfoldable pub with_line : ℕ → List ℕ → List ℕ
-with_line x [] = x ∷ []
-with_line x (y ∷ lines) =
-    if nat_lt x y then x ∷ y ∷ lines
-    else (if nat_lt y x then y ∷ with_line x lines else y ∷ lines)
 
 -- all coordinates of boxes on an axis, in rising order, each once
 unfoldable pub base_lines : AxisName → List SpaceBox → List ℕ

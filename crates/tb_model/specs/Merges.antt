@@ -1,17 +1,13 @@
 -- Refinements with more lines, and with all coordinates multiplied.
-use Rattle.std.specs.Prelude.{◌≡◌, ℕ, ◌*◌, List, [], ◌∷◌, map, nat_lt, nat_eq, if◌then◌else◌}
+use Rattle.std.specs.Prelude.{◌≡◌, ℕ, ◌*◌, List, [], ◌∷◌, map}
 use Rattle.tb_places.specs.declared.AxisName.{AxisName}
 use Rattle.tb_model.specs.Mesh.{Mesh}
 use Rattle.tb_model.specs.Refinement.{Refinement}
 use Rattle.tb_model.specs.Energy.{Case, Field, Flux, IsBalanced, energy, bound}
 use Rattle.tb_places.specs.Cuts.{on_axis}
+use Rattle.tb_places.specs.Lines.{with_line}
 
--- a rising list with one line more, at its place
-abbrev pub with_line : ℕ → List ℕ → List ℕ
-with_line q [] = q ∷ []
-with_line q (x ∷ xs) = if nat_lt q x then q ∷ x ∷ xs else (if nat_eq q x then x ∷ xs else x ∷ with_line q xs)
-
--- with all lines of another
+-- a rising list with all lines of another
 abbrev pub with_lines : List ℕ → List ℕ → List ℕ
 with_lines [] xs = xs
 with_lines (y ∷ ys) xs = with_lines ys (with_line y xs)

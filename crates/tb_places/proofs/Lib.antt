@@ -4,6 +4,7 @@ pub mod Cells
 pub mod Edges
 pub mod Faces
 pub mod Firsts
+pub mod Lines
 pub mod Meeting
 pub mod Nodes
 pub mod Rows
