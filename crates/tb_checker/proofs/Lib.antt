@@ -4,3 +4,5 @@ pub mod Turns
 pub mod Cases
 pub mod Whole
 pub mod Certified
+pub mod Lines
+pub mod AcceptedLines

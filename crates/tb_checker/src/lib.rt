@@ -5,6 +5,7 @@ mod checked;
 mod checking;
 mod fault;
 mod judge;
+pub mod laws;
 mod names;
 mod texts;
 

@@ -1,5 +1,5 @@
 -- The figures of a checked bundle are sound.
-use Rattle.std.proofs.Common.{◌≡◌, ◌≢◌, refl, subst, ℕ, zero, suc, ◌+◌, ◌<◌, ◌≤◌, List, [], ◌∷◌, length, get_or, map, arith, All, true, false, inl, inr}
+use Rattle.std.proofs.Common.{◌≢◌, subst, ℕ, zero, suc, ◌+◌, ◌<◌, ◌≤◌, List, [], ◌∷◌, length, get_or, map, arith, All, inl, inr}
 use Rattle.std.specs.Prelude.{nat_lt, slice_index, slice_index_or}
 use Rattle.std.proofs.lemmas.Bool.{cases_Bool}
 use Rattle.std.proofs.lemmas.Bool.Decides.{nat_tests}
@@ -15,7 +15,7 @@ use Rattle.tb_conduct.specs.Coupling.{AreSound, IsSoundPair}
 use Rattle.tb_conduct.specs.Pairs.{highest, lowest, no_heat}
 use Rattle.tb_conduct.proofs.Halves.{pair_sound}
 use Rattle.tb_case_records.specs.declared.case.CaseProof.{CaseProof}
-use Rattle.tb_bundle.specs.Bodies.{case_form, case_forms_from}
+use Rattle.tb_bundle.specs.Bodies.{case_forms_from}
 use Rattle.tb_bundle.specs.Limits.{CasesInLimits}
 use Rattle.tb_bundle.specs.declared.bundle.Bundle.{Bundle}
 use Rattle.tb_checker.specs.Contents.{AreCertified, IsCertifiedCase}
@@ -23,6 +23,7 @@ use Rattle.tb_report.specs.Sound.{HasSoundFigures, earlier, later}
 use Rattle.tb_report.specs.Texts.{intervals_of}
 use Rattle.tb_report.specs.Values.{coupling, planar_term}
 use Rattle.tb_report.proofs.Transmittances.{chi_sound, psi_sound}
+use Rattle.tb_report.proofs.UValues.{answer_holds}
 
 -- the interval in each place is sound for the set of this place
 each_sound : (d : Detail) (number : ℕ) (masks : List ℕ) (cs : List CaseProof) → CasesInLimits (case_forms_from d number masks) cs → All (IsCertifiedCase d) cs → (place : ℕ) → place < length masks →
@@ -58,6 +59,8 @@ figures_sound b certified =
     let d = b.detail in
     let limits = certified.limits.detail in record {
       pairs = pairs_sound b certified;
+      parts = λ k none within value is.
+          answer_holds d (get_or d.parts k none) value (record { conductivities = limits.conductivities; part = limits.parts k none within }) is;
       psis = λ k none within u holds.
           let p = get_or d.psis k none in
           let pair = (limits.psis k none within).pair in

@@ -5,3 +5,4 @@ pub mod Sizes
 pub mod Sources
 pub mod Reported
 pub mod Transmittances
+pub mod UValues

@@ -1,8 +1,11 @@
 -- What the intervals of a report promise.
-use Rattle.std.specs.Prelude.{ℕ, ℤ, ◌<◌, All, length, map, nat_lt, if◌then◌else◌}
+use Rattle.std.specs.Prelude.{◌≡◌, ℕ, ℤ, ◌<◌, All, Ok, length, map, nat_lt, if◌then◌else◌}
 use Rattle.tb_math.specs.Rational.{ℚ, int, ◌-ℚ◌, ◌≤ℚ◌}
 use Rattle.tb_model.specs.Energy.{Field, Flux, IsBalanced, bound, energy}
 use Rattle.tb_model.specs.Refinement.{Refinement, Refines, Scene, mesh, scene_of}
+use Rattle.tb_planar.specs.declared.PlanarU.{PlanarU}
+use Rattle.tb_planar.specs.Printed.{HoldsTransmittance, answer}
+use Rattle.tb_planar.specs.Transmittance.{transmittance}
 use Rattle.tb_conduct.specs.Coupling.{IsSoundPair, alone, coupling, together}
 use Rattle.tb_psi.specs.Heat.{HoldLines, HoldPlanar, line_heat, planar_heat}
 use Rattle.tb_bundle.specs.declared.bundle.Bundle.{Bundle}
@@ -27,10 +30,12 @@ abbrev pub later : ℕ → ℕ → ℕ
 later i j = if nat_lt i j then j else i
 
 -- Each coupling coefficient of the report is sound, and so are each Ψ and each χ, whatever values within their ranges the
--- transmittances of the parts and the given ψ have.
+-- transmittances of the parts and the given ψ have. The range of a part that isn't refused holds its transmittance by
+-- ISO 6946.
 pub record HasSoundFigures (b : Bundle) : Type 0 where
   pub pairs : (i j : ℕ) → i < j → j < length b.detail.environments →
       let pair = pair_interval (length b.detail.environments) (intervals_of b) i j in IsSoundPair (scene_of b.detail) i j pair.lo pair.hi
+  pub parts : All (λ p. (value : PlanarU) → answer b.detail p ≡ Ok value → HoldsTransmittance value.u (transmittance b.detail p)) b.detail.parts
   pub psis : All (λ p. (u : ℕ → ℚ) → let terms = map (planar_term b.detail) p.lengths in HoldPlanar terms u →
       let psi = psi_value b.detail (intervals_of b) p in
       IsSoundOf (scene_of b.detail) (earlier p.first p.second) (later p.first p.second) (λ x. x -ℚ planar_heat terms u) psi.lo psi.hi) b.detail.psis

@@ -36,7 +36,8 @@ pub fn certified_bundles_have_reports()
     ensures { (b : Bundle) → AreCertified b → None ≡ position (is_ratio_above b.detail) b.detail.parts → HasReport b }
 {}
 
-/// The figures of a checked bundle are sound on every refinement.
+/// The figures of a checked bundle are sound on every refinement, and the U-value of each part that isn't refused lies in
+/// its range.
 pub fn certified_bundles_have_sound_figures()
     ensures { (b : Bundle) → AreCertified b → HasSoundFigures b }
 {}
