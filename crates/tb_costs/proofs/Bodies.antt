@@ -1,8 +1,7 @@
 -- The mesh of a grid that carries a body within limits: what is positive in it, and how many cells it has.
-use Rattle.std.proofs.Common.{◌≡◌, ℕ, ◌-◌, ◌^◌, ◌<◌, ◌≤◌, List, length, arith}
-use lib.IntN.{pos}
+use Rattle.std.proofs.Common.{◌<◌, ◌≤◌, List, arith}
+use lib.IntN.{ℤ, pos}
 use lib.Signed.{◌≤ℤ◌}
-use lib.IntN.{ℤ}
 use Rattle.tb_places.specs.declared.AxisName.{AxisName}
 use Rattle.tb_places.specs.Places.{cell_count}
 use Rattle.tb_detail.specs.declared.Detail.{Detail}
@@ -19,7 +18,7 @@ use Rattle.tb_duality.proofs.BodiesInLimits.{boxes_positive}
 use Rattle.tb_duality.proofs.PhysicalMeshes.{mesh_physical}
 use Rattle.tb_costs.proofs.Costs.{cost_bounded, energy_bounded}
 use Rattle.tb_costs.proofs.Flows.{flow_along}
-use Rattle.tb_costs.specs.Admissible.{most_energy}
+use Rattle.tb_costs.specs.Admissible.{most_energy, most_loss}
 
 module _ (d : Detail) (g : Axes) (limits : InLimits d) (carries : CarriesBody g d) (grid : IsGrid g) where
   physical : IsPhysical (mesh_on d g)
@@ -32,7 +31,7 @@ module _ (d : Detail) (g : Axes) (limits : InLimits d) (carries : CarriesBody g 
   few = grid.few
 
   pub costs : (inside : Case) (flows : List ℤ) → IsFlux (mesh_on d g).cells flows → weighted_flux (mesh_on d g) inside (flux_of (mesh_on d g).cells flows) ≤ℤ most_energy
-      → rounded_up (mesh_on d g) (flux_terms (mesh_on d g) (flux_of (mesh_on d g).cells flows)) ≤ℤ pos (10 ^ 25)
+      → rounded_up (mesh_on d g) (flux_terms (mesh_on d g) (flux_of (mesh_on d g).cells flows)) ≤ℤ most_loss
   costs inside flows flux = cost_bounded (mesh_on d g) inside (flux_of (mesh_on d g).cells flows) physical (flow_along (mesh_on d g).cells flows flux.within) some few
 
   pub energies : (inside : Case) (flows : List ℤ) → IsFlux (mesh_on d g).cells flows → pos 0 ≤ℤ lower_end (mesh_on d g) inside (flux_of (mesh_on d g).cells flows)

@@ -21,6 +21,7 @@ use Rattle.tb_model.specs.Mesh.{Mesh, cross_section}
 use Rattle.tb_model.specs.Positive.{IsPhysical}
 use Rattle.tb_weighted.specs.Weighted.{weighted_flux, weighted_flux_terms, whole_sum, whole_weight}
 use Rattle.tb_duality.proofs.MeshSums.{AllRelated, Readings, mesh_related}
+use Rattle.tb_costs.specs.Admissible.{most_energy, most_loss}
 use Rattle.tb_costs.proofs.Counting.{few_terms}
 use Rattle.tb_costs.proofs.Flows.{IsFlow, IsForm, passage_form, square_form}
 use Rattle.tb_costs.proofs.TermWeights.{cell_weighted, face_weighted}
@@ -159,16 +160,16 @@ module _ (m : Mesh) (inside : Case) (q : Flux) (physical : IsPhysical m) (flows 
 
   -- ---- on a mesh of few cells
   module _ (some : (a : AxisName) → 0 < m.cells a) (few : cell_count m.cells ≤ 262144) where
-    pub cost_bounded : weighted_flux m inside q ≤ℤ pos (2 ^ 103) → rounded_up m (flux_terms m q) ≤ℤ pos (10 ^ 25)
+    pub cost_bounded : weighted_flux m inside q ≤ℤ most_energy → rounded_up m (flux_terms m q) ≤ℤ most_loss
     unfolding weighted_flux
     cost_bounded h = last (number_of_terms m (flux_terms m q)) (cell_count m.cells) (rounded_up m (flux_terms m q)) (whole_sum m (weighted_flux_terms m q)) (whole_sum m (entering_terms inside q))
         (few_terms m (flux_terms m q) some) few sums_near.loss_from_energy sums_near.at_most h
       where
         last : (n cells : ℕ) (cost energy entering : ℤ) → n ≤ 9 * cells → cells ≤ 262144 → (pos (3 * 2 ^ 44) *ℤ cost) ≤ℤ (pos (2 * 10 ^ 5) *ℤ energy +ℤ pos (3 * 2 ^ 44) *ℤ pos n)
-            → entering ≤ℤ (pos (10 ^ 12) *ℤ pos n) → (energy -ℤ pos (60 * 2 ^ 44) *ℤ entering) ≤ℤ pos (2 ^ 103) → cost ≤ℤ pos (10 ^ 25)
+            → entering ≤ℤ (pos (10 ^ 12) *ℤ pos n) → (energy -ℤ pos (60 * 2 ^ 44) *ℤ entering) ≤ℤ most_energy → cost ≤ℤ most_loss
         last n cells cost energy entering h k l s e = omega (arith, ints)
 
-    pub energy_bounded : pos 0 ≤ℤ lower_end m inside q → weighted_flux m inside q ≤ℤ pos (2 ^ 103)
+    pub energy_bounded : pos 0 ≤ℤ lower_end m inside q → weighted_flux m inside q ≤ℤ most_energy
     unfolding weighted_flux lower_end source
     energy_bounded h = last (number_of_terms m (flux_terms m q)) (cell_count m.cells) (rounded_up m (flux_terms m q)) (whole_sum m (weighted_flux_terms m q)) (whole_sum m (entering_terms inside q))
         (few_terms m (flux_terms m q) some) few sums_near.energy_from_loss
@@ -178,5 +179,5 @@ module _ (m : Mesh) (inside : Case) (q : Flux) (physical : IsPhysical m) (flows 
         whole_source x z e = ap floor (ap (λ (t : ℚ). int (pos (2 * 10 ^ 6)) *ℚ t) e ∙ sym (int-mul (pos (2 * 10 ^ 6)) z)) ∙ floor-int (pos (2 * 10 ^ 6) *ℤ z)
 
         last : (n cells : ℕ) (cost energy entering : ℤ) → n ≤ 9 * cells → cells ≤ 262144 → (pos (10 ^ 5) *ℤ energy) ≤ℤ (pos (3 * 2 ^ 44) *ℤ cost +ℤ pos (3 * 10 ^ 29) *ℤ pos n)
-            → pos 0 ≤ℤ (pos (2 * 10 ^ 6) *ℤ entering -ℤ cost) → (energy -ℤ pos (60 * 2 ^ 44) *ℤ entering) ≤ℤ pos (2 ^ 103)
+            → pos 0 ≤ℤ (pos (2 * 10 ^ 6) *ℤ entering -ℤ cost) → (energy -ℤ pos (60 * 2 ^ 44) *ℤ entering) ≤ℤ most_energy
         last n cells cost energy entering h k l s = omega (arith, ints)

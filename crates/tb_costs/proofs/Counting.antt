@@ -1,5 +1,5 @@
 -- A mesh has at most nine terms a cell: three of the cell, and six of faces, since a line of n cells has n + 1 faces.
-use Rattle.std.proofs.Common.{◌≡◌, ℕ, zero, suc, ◌+◌, ◌*◌, ◌<◌, ◌≤◌, Option, Some, None, arith}
+use Rattle.std.proofs.Common.{ℕ, zero, suc, ◌+◌, ◌*◌, ◌<◌, ◌≤◌, Option, Some, None, arith}
 use Rattle.std.proofs.Math.Nat.{mul-le-mul_right}
 use Rattle.tb_math.specs.Sums.{sum_to}
 use Rattle.tb_places.specs.declared.AxisName.{AxisName}

@@ -4,3 +4,7 @@ pub mod TermWeights
 pub mod Counting
 pub mod Costs
 pub mod Bodies
+pub mod Zero
+pub mod Filling
+pub mod Moves
+pub mod Ends

@@ -1,13 +1,12 @@
 -- The terms of the loss and of the weighted energy of a flux, of a cell and of a surface face.
-use mathlib.Core.Path.{◌≡◌, refl, sym, ap, ◌∙◌, subst}
+use mathlib.Core.Path.{◌≡◌, refl, sym, ap, ◌∙◌}
 use mathlib.Core.List.{[], ◌∷◌}
 use Prim.Native.Nat.{ℕ, ◌*◌, ◌-◌, ◌^◌, ◌<◌}
 use native.Mathlib.Omega.{arith}
 use Rattle.std.proofs.lemmas.Int.{ints}
-use lib.IntN.{ℤ, pos, negsuc, ◌*ℤ◌}
-use lib.Signed.{◌≤ℤ◌}
+use lib.IntN.{ℤ, pos, negsuc}
 use Rattle.tb_math.specs.Integers.{pos-nonneg}
-use Rattle.tb_math.specs.Rational.{ℚ, int, ◌*ℚ◌, ◌≤ℚ◌, ◌<ℚ◌}
+use Rattle.tb_math.specs.Rational.{ℚ, int, ◌*ℚ◌, ◌<ℚ◌}
 use Rattle.tb_math.proofs.RationalLaws.{int-mul}
 use Rattle.tb_math.specs.Division.{inverse, ◌/ℚ◌}
 use Rattle.tb_math.proofs.DivisionLaws.{inverse-mul, inverse-nonneg, inverse-positive, product-is_positive}

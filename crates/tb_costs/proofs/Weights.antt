@@ -2,7 +2,7 @@
 -- weighted form of the same flows are near each other.
 use mathlib.Core.Path.{◌≡◌, refl, sym, subst}
 use mathlib.Core.List.{[], ◌∷◌}
-use Prim.Native.Nat.{ℕ, zero, suc, ◌*◌, ◌^◌}
+use Prim.Native.Nat.{zero, suc, ◌*◌, ◌^◌}
 use native.Mathlib.Omega.{arith}
 use Rattle.std.proofs.lemmas.Int.{ints}
 use lib.IntN.{ℤ, pos, negsuc, ◌+ℤ◌, ◌*ℤ◌, neg_ℤ}
