@@ -22,7 +22,7 @@ use Rattle.tb_demo.specs.Section.{flat_box, masonry, section, storey, storeys}
 use Rattle.tb_demo.proofs.Hull.{ends, hull_of}
 use Rattle.tb_demo.proofs.Lists.{any_right}
 use Rattle.tb_demo.proofs.Limits.{section_within}
-use Rattle.tb_demo.proofs.Tests.{all_apart, apart_from_test, each_number}
+use Rattle.tb_demo.proofs.Computed.{all_apart, apart_from_test, each_number}
 
 has_solid : (n : ℕ) → 1 ≤ n → HasSolid (section n)
 has_solid zero some = absurd (omega arith)

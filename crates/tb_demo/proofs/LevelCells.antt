@@ -14,7 +14,7 @@ use Rattle.tb_geometry.specs.Base.{base_axes, base_lines, with_line}
 use Rattle.tb_geometry.proofs.Lines.{base_rises}
 use Rattle.tb_demo.specs.Level.{HasLevelCells, demo_grading}
 use Rattle.tb_demo.specs.Section.{section, storeys}
-use Rattle.tb_demo.proofs.Tests.{each_number}
+use Rattle.tb_demo.proofs.Computed.{each_number}
 
 -- the lines of the level grid along an axis
 abbrev lines_along : ℕ → AxisName → List ℕ

@@ -1,5 +1,5 @@
 pub mod Lists
-pub mod Tests
+pub mod Computed
 pub mod Limits
 pub mod Hull
 pub mod Accepted
