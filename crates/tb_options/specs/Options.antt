@@ -1,18 +1,27 @@
--- The options of `solve`: words in pairs, a name and a value.
-use Rattle.std.specs.Prelude.{◌≡◌, ◌≢◌, ◌↔◌, ◌≤◌, ℕ, List, [], ◌∷◌, AllPairs, Contains, Option, Some, None, Ok, codes, if◌then◌else◌, ◌==◌}
-use Rattle.std.specs.Str.{bytes_eq}
+-- The words of a command, as `clap` reads them, and the options of `solve`.
+use Rattle.std.specs.Prelude.{◌≡◌, ◌≤◌, ℕ, List, [], Option, Some, None, Result, Ok, Err, codes, if◌then◌else◌, ◌==◌}
+use Rattle.clap.specs.Words.{App, Row, Rule, Text, fault_of, first_of, matches_of, new_app, new_rule, with_rule}
+use Rattle.clap.specs.declared.builder.action.ArgAction.TheVariants.{Set}
 use Rattle.tb_numbers.specs.Reading.{decimal_reading, in_range}
+use Rattle.tb_numbers.specs.declared.parse.NumberFault.{NumberFault}
 use Rattle.tb_options.specs.declared.SolveOption.{SolveOption}
 use Rattle.tb_options.specs.declared.SolveOption.TheVariants.{Width, Grade, Halve, Sweeps}
 use Rattle.tb_options.specs.declared.SolveOptions.{SolveOptions}
 
--- ---- the four options
-abbrev pub option_of_word : List ℕ → Option SolveOption
-option_of_word word =
-    if bytes_eq word (codes "--width") then Some Width
-    else (if bytes_eq word (codes "--grade") then Some Grade
-    else (if bytes_eq word (codes "--halve") then Some Halve
-    else (if bytes_eq word (codes "--sweeps") then Some Sweeps else None)))
+-- ---- the words of a command
+
+-- clap has matches of these words by this command: it meets no fault in them. The first word is the command's own, and
+-- clap looks only at those behind it.
+abbrev pub HasMatches : App → List Text → Type 0
+HasMatches command words = fault_of command words ≡ []
+
+-- ---- the four options of `solve`
+
+abbrev pub name_of : SolveOption → Text
+name_of Width = codes "width"
+name_of Grade = codes "grade"
+name_of Halve = codes "halve"
+name_of Sweeps = codes "sweeps"
 
 -- the least and the greatest value of each: the width in µW/K, the others are counts
 abbrev pub least_of : SolveOption → ℕ
@@ -27,27 +36,27 @@ most_of Grade = 12
 most_of Halve = 6
 most_of Sweeps = 10000
 
--- ---- what words set
-pub record Setting : Type 0 where
-  pub option : SolveOption
-  pub value : ℕ
+-- an option of this name takes one value, and may be given once
+abbrev pub option_rule : Text → Rule
+option_rule name = record (new_rule name) { long = Some name; action = Some Set }
 
--- two words are an option's name and its value, a whole number
-pub record IsSetting (s : Setting) (name text : List ℕ) : Type 0 where
-  pub named : option_of_word name ≡ Some s.option
-  pub reads : in_range (least_of s.option) (most_of s.option) (decimal_reading 0 text) ≡ Ok s.value
+-- the command `solve`, as clap knows it
+abbrev pub solve_app : App
+solve_app = with_rule (with_rule (with_rule (with_rule (new_app (codes "solve"))
+    (option_rule (name_of Width))) (option_rule (name_of Grade))) (option_rule (name_of Halve))) (option_rule (name_of Sweeps))
 
--- words set these options, one after the other
-pub data Sets : List (List ℕ) → List Setting → Type 0 where
-  nothing : Sets [] []
-  first_sets : {s : Setting} {name text : List ℕ} {words : List (List ℕ)} {settings : List Setting} →
-      IsSetting s name text → Sets words settings → Sets (name ∷ text ∷ words) (s ∷ settings)
+-- ---- what its words give
 
--- no option is set twice
-abbrev pub EachOnce : List Setting → Type 0
-EachOnce settings = AllPairs (λ s t. s.option ≢ t.option) settings
+-- a number that was read is given
+abbrev pub is_given : Result ℕ NumberFault → Result (Option ℕ) NumberFault
+is_given (Ok n) = Ok (Some n)
+is_given (Err fault) = Err fault
 
--- ---- what is read
+-- the value of an option by its text: none where it has no text, else the whole number of the text, in the option's range
+abbrev pub value_of_text : SolveOption → Option Text → Result (Option ℕ) NumberFault
+value_of_text option None = Ok None
+value_of_text option (Some text) = is_given (in_range (least_of option) (most_of option) (decimal_reading 0 text))
+
 -- the value of an option, if it was given
 abbrev pub given : SolveOptions → SolveOption → Option ℕ
 given o Width = o.width
@@ -55,12 +64,14 @@ given o Grade = o.grade
 given o Halve = o.halve
 given o Sweeps = o.sweeps
 
--- the options that words give
-pub record IsReading (words : List (List ℕ)) (o : SolveOptions) : Type 0 where
-  pub settings : List Setting
-  pub sets : Sets words settings
-  pub once : EachOnce settings
-  pub same : (s : Setting) → (given o s.option ≡ Some s.value) ↔ Contains settings s
+-- each option has the value of the text that stands for it in the matches
+abbrev pub GivesOptions : List Row → SolveOptions → Type 0
+GivesOptions rows o = (option : SolveOption) → value_of_text option (first_of (name_of option) rows) ≡ Ok (given o option)
+
+-- clap has matches of the words of `solve`, and they give these options
+pub record IsReading (words : List Text) (o : SolveOptions) : Type 0 where
+  pub matches : HasMatches solve_app words
+  pub gives : GivesOptions (matches_of solve_app words) o
 
 -- each value is between the least and the greatest
 abbrev pub AreWithin : SolveOptions → Type 0

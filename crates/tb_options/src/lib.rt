@@ -1,16 +1,18 @@
-//! The options of the command `solve`: its words, and what holds where an option isn't given.
-//!
-//! Nothing here takes memory.
+//! The words of a command, read by `clap`: the options of the command `solve`, what holds where an option isn't given,
+//! and the words of a command that takes none.
 #![tactic(auto)]
 
-ghost use Rattle.std.specs.Prelude.{◌≡◌, unwrap_or};
-ghost use Rattle.tb_options.specs.Options.{usual_grade, usual_halve};
+ghost use Rattle.std.specs.Prelude.{◌≡◌, codes, unwrap_or};
+ghost use Rattle.tb_options.specs.Options.{least_of, most_of, name_of, usual_grade, usual_halve};
 
+mod matches;
+mod refusal;
 #[cfg(test)]
 mod tests;
 mod words;
 
-pub use words::read_options;
+pub use refusal::WordsRefusal;
+pub use words::{read_options, read_without_options};
 
 /// An option of `solve`.
 #[derive(Clone, Copy, Debug, PartialEq, Eq)]
@@ -23,6 +25,42 @@ pub enum SolveOption {
     Halve,
     /// `--sweeps`: how many plain passes a case may take, 1 to 10,000.
     Sweeps,
+}
+
+impl SolveOption {
+    // Its name, which stands behind two hyphens.
+    fn name(self) -> &'static str
+        ensures { result.now ≡ name_of self }
+    {
+        match self {
+            SolveOption::Width => "width",
+            SolveOption::Grade => "grade",
+            SolveOption::Halve => "halve",
+            SolveOption::Sweeps => "sweeps",
+        }
+    }
+
+    // Its least value.
+    fn least(self) -> u64
+        ensures { result ≡ least_of self }
+    {
+        match self {
+            SolveOption::Sweeps => 1,
+            _ => 0,
+        }
+    }
+
+    // Its greatest value.
+    fn most(self) -> u64
+        ensures { result ≡ most_of self }
+    {
+        match self {
+            SolveOption::Width => 1_000_000_000,
+            SolveOption::Grade => 12,
+            SolveOption::Halve => 6,
+            SolveOption::Sweeps => 10_000,
+        }
+    }
 }
 
 /// The options that are given. See [`SolveOption`].

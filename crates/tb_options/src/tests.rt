@@ -1,39 +1,46 @@
 use super::*;
+use std::alloc::{AllocError, Global};
 use std::test::Fail;
+
+// The words of a text: what stands between two spaces, which may be nothing.
+fn words_of(alloc: Global, text: &str) -> Result<Vec<String>, AllocError> {
+    let mut words = Vec::new(alloc);
+    for word in text.split(' ') {
+        words.push(word.to_owned(alloc)?)?;
+    }
+    Ok(words)
+}
 
 #[test]
 fn words_of_solve(rt: HostRuntime) -> Result<(), Fail> {
     let alloc = rt.alloc();
     for (text, width, grade, halve, sweeps) in [
-        ("", None, None, None, None),
+        ("solve", None, None, None, None),
         (
-            "--width 0 --grade 0 --halve 0",
+            "solve --width 0 --grade=0 --halve 0",
             Some(0),
             Some(0),
             Some(0),
             None,
         ),
         (
-            "--sweeps 10000 --halve 6 --grade 12 --width 1000000000",
+            "solve --sweeps=10000 --halve 6 --grade 12 --width=1000000000",
             Some(1_000_000_000),
             Some(12),
             Some(6),
             Some(10_000),
         ),
-        ("--sweeps 1", None, None, None, Some(1)),
-        ("--width 00000000012", Some(12), None, None, None),
+        ("solve --sweeps 1 --", None, None, None, Some(1)),
+        ("solve --width 00000000012", Some(12), None, None, None),
     ] {
-        let mut words = Vec::new(alloc);
-        for word in text.split_ascii_whitespace() {
-            words.push(word.to_owned(alloc)?)?;
-        }
+        let words = words_of(alloc, text)?;
         let want = SolveOptions {
             width,
             grade,
             halve,
             sweeps,
         };
-        assert_eq!(rt; read_options(words.as_slice()), Some(want), "{text}");
+        assert_eq!(rt; read_options(alloc, words.as_slice()), Ok(want), "{text}");
     }
     Ok(())
 }
@@ -42,25 +49,45 @@ fn words_of_solve(rt: HostRuntime) -> Result<(), Fail> {
 fn words_without_a_reading(rt: HostRuntime) -> Result<(), Fail> {
     let alloc = rt.alloc();
     for text in [
-        "--width",
-        "5",
-        "--grade 13",
-        "--halve 7",
-        "--sweeps 0",
-        "--sweeps 10001",
-        "--width 1000000001",
-        "--width -5",
-        "--width 5.0",
-        "--width=5",
-        "--wide 5",
-        "--grade 1 --grade 1",
-        "--grade 1 --halve",
+        "solve --width",
+        "solve --width=",
+        "solve --width ",
+        "solve ",
+        "solve 5",
+        "solve -- 5",
+        "solve --grade 13",
+        "solve --halve=7",
+        "solve --sweeps 0",
+        "solve --width 1000000001",
+        "solve --width -5",
+        "solve --width 5.0",
+        "solve --wid 5",
+        "solve --grade 1 --grade=1",
+        "solve -h",
+        "solve --help",
     ] {
-        let mut words = Vec::new(alloc);
-        for word in text.split_ascii_whitespace() {
-            words.push(word.to_owned(alloc)?)?;
-        }
-        assert_eq!(rt; read_options(words.as_slice()), None, "{text}");
+        let words = words_of(alloc, text)?;
+        let found = read_options(alloc, words.as_slice());
+        assert_eq!(rt; found, Err(WordsRefusal::NoReading), "{text}");
+    }
+    Ok(())
+}
+
+#[test]
+fn words_of_a_command_that_takes_nothing(rt: HostRuntime) -> Result<(), Fail> {
+    let alloc = rt.alloc();
+    for (text, want) in [
+        ("check", Ok(())),
+        ("check --", Ok(())),
+        ("check check", Err(WordsRefusal::NoReading)),
+        ("check --help", Err(WordsRefusal::NoReading)),
+    ] {
+        let words = words_of(alloc, text)?;
+        assert_eq!(rt;
+            read_without_options(alloc, "check", words.as_slice()),
+            want,
+            "{text}"
+        );
     }
     Ok(())
 }

@@ -1,111 +1,74 @@
-// The words of `solve`.
-ghost use Rattle.std.specs.Prelude.{◌≡◌, ◌≤◌, IfSome, MatchOption, map, string_bytes};
+// The words of a command.
+ghost use Rattle.std.specs.Prelude.{◌≡◌, ◌≤◌, IfErr, IfOk, IfSome, Ok, map, string_bytes};
+ghost use Rattle.clap.specs.Words.{found_of, new_app, rows_of};
 ghost use Rattle.tb_options.specs.declared.SolveOptions.{SolveOptions};
-ghost use Rattle.tb_options.specs.Options.{AreWithin, IsReading, least_of, most_of, option_of_word};
-ghost use Rattle.tb_options.specs.Steps.{options_after, value_of_text, with_setting};
+ghost use Rattle.tb_options.specs.declared.refusal.WordsRefusal.TheVariants.{NoReading};
+ghost use Rattle.tb_options.specs.Options.{AreWithin, GivesOptions, HasMatches, IsReading};
 
-use crate::{SolveOption, SolveOptions};
-use tb_numbers::parse_decimal;
+use crate::matches::{matches_of, solve_command, value_of};
+use crate::{SolveOption, SolveOptions, WordsRefusal};
+use clap::{ArgMatches, Command};
+use std::alloc::Global;
+use tb_numbers::NumberFault;
 
-const NO_OPTIONS: SolveOptions = SolveOptions {
-    width: None,
-    grade: None,
-    halve: None,
-    sweeps: None,
-};
-
-/// The options that words give: each a name and a value, each option at most once, in any order. None where the
-/// words have no such reading.
-pub fn read_options(words: &[String]) -> Option<SolveOptions>
-    ensures reading { MatchOption result ((o : SolveOptions) → ¬ IsReading (map string_bytes words.now) o)
-        (IsReading (map string_bytes words.now)) }
-    ensures within { IfSome result AreWithin }
+/// The options that the words of `solve` give, of which the first is the command's own: each as `--name value` or
+/// `--name=value`, at most once, in any order.
+pub fn read_options(alloc: Global, words: &[String]) -> Result<SolveOptions, WordsRefusal>
+    ensures reading { IfOk result (IsReading (map string_bytes words.now)) }
+    ensures within { IfOk result AreWithin }
+    ensures no_reading { IfErr result (λ why. why ≡ NoReading → (o : SolveOptions) → ¬ IsReading (map string_bytes words.now) o) }
 {
-    read_on(NO_OPTIONS, words)
+    let matches = matches_of(solve_command(alloc)?, words)?;
+    match options_of(&matches) {
+        Ok(options) => Ok(options),
+        Err(_) => Err(WordsRefusal::NoReading),
+    }
 }
 
-// The options with those that more words set.
-fn read_on(options: SolveOptions, words: &[String]) -> Option<SolveOptions>
-    ensures { result ≡ options_after options (map string_bytes words.now) }
+/// Reads the words of a command of this name that takes nothing. The first is the command's own.
+pub fn read_without_options(alloc: Global, name: &str, words: &[String]) -> Result<(), WordsRefusal>
+    ensures reading { IfOk result (λ _. HasMatches (new_app name.now) (map string_bytes words.now)) }
+    ensures no_reading { IfErr result (λ why. why ≡ NoReading → ¬ HasMatches (new_app name.now) (map string_bytes words.now)) }
 {
-    match words {
-        [] => Some(options),
-        [name, text, rest @ ..] => {
-            let option = option_of_word(name.as_str())?;
-            let value = value_of_text(option, text.as_str())?;
-            read_on(options.with(option, value)?, rest)
-        }
-        _ => None,
-    }
+    matches_of(Command::new(alloc, name), words)?;
+    Ok(())
 }
 
-// The option of that name.
-fn option_of_word(word: &str) -> Option<SolveOption>
-    ensures { result ≡ option_of_word word.now }
+// The options that matches give.
+fn options_of(matches: &ArgMatches<'_>) -> Result<SolveOptions, NumberFault>
+    ensures gives { IfOk result (GivesOptions (rows_of (found_of matches.now))) }
+    ensures gives_none { IfErr result (λ _. (o : SolveOptions) → ¬ GivesOptions (rows_of (found_of matches.now)) o) }
 {
-    if word == "--width" {
-        return Some(SolveOption::Width);
-    }
-    if word == "--grade" {
-        return Some(SolveOption::Grade);
-    }
-    if word == "--halve" {
-        return Some(SolveOption::Halve);
-    }
-    if word == "--sweeps" {
-        return Some(SolveOption::Sweeps);
-    }
-    None
+    let width = value_of(matches, SolveOption::Width)?;
+    let grade = value_of(matches, SolveOption::Grade)?;
+    let halve = value_of(matches, SolveOption::Halve)?;
+    let sweeps = value_of(matches, SolveOption::Sweeps)?;
+    Ok(SolveOptions {
+        width,
+        grade: byte(grade),
+        halve: byte(halve),
+        sweeps: short(sweeps),
+    })
 }
 
-// The value of an option that a text gives, where it is in the option's range.
-fn value_of_text(option: SolveOption, text: &str) -> Option<u32>
-    ensures value { result ≡ value_of_text option text.now }
-    ensures within { IfSome result (λ n. n ≤ most_of option) }
+// A value of 8 bits.
+fn byte(value: Option<u32>) -> Option<u8>
+    requires { IfSome value (λ n. n ≤ 255) }
+    ensures { result ≡ value }
 {
-    match parse_decimal(text.as_bytes(), 0, option.least(), option.most()) {
-        Ok(value) => Some(value as u32),
-        Err(_) => None,
+    match value {
+        Some(value) => Some(value as u8),
+        None => None,
     }
 }
 
-impl SolveOption {
-    // Its least value.
-    fn least(self) -> u64
-        ensures { result ≡ least_of self }
-    {
-        match self {
-            SolveOption::Sweeps => 1,
-            _ => 0,
-        }
-    }
-
-    // Its greatest value.
-    fn most(self) -> u64
-        ensures { result ≡ most_of self }
-    {
-        match self {
-            SolveOption::Width => 1_000_000_000,
-            SolveOption::Grade => 12,
-            SolveOption::Halve => 6,
-            SolveOption::Sweeps => 10_000,
-        }
-    }
-}
-
-impl SolveOptions {
-    // The options with one more. None where it was given already.
-    fn with(self, option: SolveOption, value: u32) -> Option<SolveOptions>
-        requires { value ≤ most_of option }
-        ensures { result ≡ with_setting self option value }
-    {
-        let mut options = self;
-        let before = match option {
-            SolveOption::Width => options.width.replace(value).is_some(),
-            SolveOption::Grade => options.grade.replace(value as u8).is_some(),
-            SolveOption::Halve => options.halve.replace(value as u8).is_some(),
-            SolveOption::Sweeps => options.sweeps.replace(value as u16).is_some(),
-        };
-        if before { None } else { Some(options) }
+// A value of 16 bits.
+fn short(value: Option<u32>) -> Option<u16>
+    requires { IfSome value (λ n. n ≤ 65535) }
+    ensures { result ≡ value }
+{
+    match value {
+        Some(value) => Some(value as u16),
+        None => None,
     }
 }

@@ -90,11 +90,17 @@ module _ {S K : Type 0} (left : S → Option (List ℕ)) (source_faults : S → 
   usage_words s p (told.Answered x, o, inl t) = absurd (not_answered o.0 o.2 x s _ o.4 t.0 p refl)
   usage_words s p (x, o, inr t) = let e = t.0 in cc (e, p)
 
-  -- words without a reading are told so, and the source is untouched
-  pub no_reading : (s : Status) → (¬ HasReading words) → Ran s → ((s ≡ status.Usage) ⊎ (s ≡ status.SinkFault)) × (b ≡ a)
+  -- memory that ran out on words without a reading left the source untouched
+  untouched : (¬ HasReading words) → HasReading words ⊎ (b ≡ a) → b ≡ a
+  untouched h (inl reads) = absurd (h reads)
+  untouched h (inr same) = same
+
+  -- words without a reading are told so, unless memory runs out, and the source is untouched
+  pub no_reading : (s : Status) → (¬ HasReading words) → Ran s → ((s ≡ status.Usage) ⊎ ((s ≡ status.NoMemory) ⊎ (s ≡ status.SinkFault))) × (b ≡ a)
   no_reading s h (told.Usage, o, inl t) = (inl t.0, o.1)
-  no_reading s h (told.Usage, o, inr t) = (inr t.0, o.1)
-  no_reading s h (told.NoMemory, o, t) = absurd (h o.0)
+  no_reading s h (told.Usage, o, inr t) = (inr (inr t.0), o.1)
+  no_reading s h (told.NoMemory, o, inl t) = (inr (inl t.0), untouched h o.0)
+  no_reading s h (told.NoMemory, o, inr t) = (inr (inr t.0), untouched h o.0)
   no_reading s h (told.SourceFault, o, t) = absurd (h o.0)
   no_reading s h (told.TooLong, o, t) = absurd (h o.0)
   no_reading s h (told.Answered x, o, t) = absurd (h (o.0, o.1))

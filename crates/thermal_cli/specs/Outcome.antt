@@ -29,7 +29,7 @@ IsRead old new bytes = Takes old new bytes × IsAtEnd new × (length bytes ≤ m
 -- the source is told exactly where one was counted.
 abbrev pub IsOutcome : {S : Type 0} → (S → Option (List ℕ)) → (S → ℕ) → (words : List (List ℕ)) (old new : S) → Told → Type 0
 IsOutcome left faults words old new Usage = (¬ HasReading words) × (new ≡ old)
-IsOutcome left faults words old new NoMemory = HasReading words × TakesAtMost (left old) (left new) (most_input_bytes + 1) × Stands (faults old) (faults new)
+IsOutcome left faults words old new NoMemory = (HasReading words ⊎ (new ≡ old)) × TakesAtMost (left old) (left new) (most_input_bytes + 1) × Stands (faults old) (faults new)
 IsOutcome left faults words old new SourceFault = HasReading words × TakesAtMost (left old) (left new) most_input_bytes × Rose (faults old) (faults new)
 IsOutcome left faults words old new TooLong = HasReading words × TakesExactly (left old) (left new) (most_input_bytes + 1) × Stands (faults old) (faults new)
 IsOutcome left faults words old new (Answered a) =

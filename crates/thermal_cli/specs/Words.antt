@@ -1,15 +1,24 @@
 -- What the words of a run mean.
-use Rattle.std.specs.Prelude.{◌≡◌, ℕ, List, [], ◌∷◌, codes}
-use Rattle.tb_options.specs.Options.{AreWithin, IsReading}
+use Rattle.std.specs.Prelude.{◌≡◌, ℕ, List, Some, codes, slice_get}
+use Rattle.clap.specs.Words.{new_app}
+use Rattle.tb_options.specs.Options.{AreWithin, HasMatches, IsReading}
 use Rattle.thermal_cli.specs.declared.words.Command.{Command}
 use Rattle.thermal_cli.specs.declared.words.Command.TheVariants.{Check, Report, Solve, UValue}
 
--- the words name this command: its own word alone, or `solve` and words that give its options
+-- this is the first word
+abbrev pub IsFirstWord : List ℕ → List (List ℕ) → Type 0
+IsFirstWord word words = slice_get words 0 ≡ Some word
+
+-- the words name a command that takes nothing: its name comes first, and clap has matches of them
+abbrev pub NamesAlone : List ℕ → List (List ℕ) → Type 0
+NamesAlone name words = IsFirstWord name words × HasMatches (new_app name) words
+
+-- the words name this command: a command that takes nothing, or `solve` with the options that they give
 abbrev pub Names : List (List ℕ) → Command → Type 0
-Names words Check = words ≡ codes "check" ∷ []
-Names words Report = words ≡ codes "report" ∷ []
-Names words (Solve options) = (rest : List (List ℕ)) × (words ≡ codes "solve" ∷ rest) × IsReading rest options
-Names words UValue = words ≡ codes "uvalue" ∷ []
+Names words Check = NamesAlone (codes "check") words
+Names words Report = NamesAlone (codes "report") words
+Names words (Solve options) = IsFirstWord (codes "solve") words × IsReading words options
+Names words UValue = NamesAlone (codes "uvalue") words
 
 -- the words name a command
 abbrev pub HasReading : List (List ℕ) → Type 0

@@ -12,6 +12,7 @@ use crate::answer::answer_to;
 use crate::told::{Told, tell};
 use crate::words::command_of;
 use std::alloc::Global;
+use tb_options::WordsRefusal;
 use tb_outside::{InFault, Sink, Source, read_all};
 use tb_records::NoMemory;
 
@@ -22,8 +23,10 @@ const INPUT_LIMIT: usize = 268_435_456;
 fn work<S: Source>(alloc: Global, words: &[String], source: &mut S) -> Told
     ensures { IsOutcome S.left S.faults (map string_bytes words.now) source.old source.new result }
 {
-    let Some(command) = command_of(words) else {
-        return Told::Usage;
+    let command = match command_of(alloc, words) {
+        Ok(command) => command,
+        Err(WordsRefusal::NoReading) => return Told::Usage,
+        Err(WordsRefusal::NoMemory) => return Told::NoMemory,
     };
     match read_all(alloc, source, INPUT_LIMIT) {
         Ok(bytes) => match answer_to(alloc, command, bytes.as_slice()) {
@@ -42,7 +45,8 @@ fn work<S: Source>(alloc: Global, words: &[String], source: &mut S) -> Told
 /// writes the figures that follow from them: coupling coefficients, U-values, Ψ and χ. `solve` reads a detail and tells
 /// its first fault, that of its body, or why its level grid is too large; solving comes later, so any other body is
 /// refused as not built. `uvalue` reads a detail, and writes the U-values of its parts. `check`, `report` and `uvalue`
-/// are the only word; behind `solve` stand its options, each a name and a value: `--width`, `--grade`, `--halve`, `--sweeps`.
+/// take nothing; behind `solve` stand its options, each at most once, as `--width 5` or `--width=5`: `--width`, `--grade`,
+/// `--halve`, `--sweeps`.
 /// Where the input is refused, one line says why (`docs/FORMATS.md`). All memory is taken before the first byte is
 /// written.
 pub fn run<S: Source, K: Sink>(
@@ -54,10 +58,11 @@ pub fn run<S: Source, K: Sink>(
     // The status and the bytes written belong to the words and to what the source gave. All that follows is part of this.
     ensures outcome { Runs S.left S.faults K.holds K.faults (map string_bytes words.now) source.old source.new sink.old sink.new result }
 
-    // Usage comes exactly where the words name no command, and leaves the source untouched.
+    // Usage comes exactly where the words name no command, unless memory runs out while they are read; the source is
+    // untouched.
     ensures usage { result ≡ Status.Usage → ¬ HasReading (map string_bytes words.now) }
     ensures no_reading { (¬ HasReading (map string_bytes words.now))
-        → ((result ≡ Status.Usage) ⊎ (result ≡ Status.SinkFault)) × (source.new ≡ source.old) }
+        → ((result ≡ Status.Usage) ⊎ ((result ≡ Status.NoMemory) ⊎ (result ≡ Status.SinkFault))) × (source.new ≡ source.old) }
 
     // SourceFault comes only if a read failed, SinkFault only if a write failed.
     ensures source_fault { result ≡ Status.SourceFault → Rose (S.faults source.old) (S.faults source.new)

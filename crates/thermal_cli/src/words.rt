@@ -1,8 +1,10 @@
 // The words of a run.
-ghost use Rattle.std.specs.Prelude.{◌∷◌, IfSome, MatchOption, map, string_bytes};
+ghost use Rattle.std.specs.Prelude.{◌≡◌, IfErr, IfOk, Some, map, slice_get, string_bytes};
+ghost use Rattle.tb_options.specs.declared.refusal.WordsRefusal.TheVariants.{NoReading};
 ghost use Rattle.thermal_cli.specs.Words.{HasReading, HasRanges, Names};
 
-use tb_options::{SolveOptions, read_options};
+use std::alloc::Global;
+use tb_options::{SolveOptions, WordsRefusal, read_options, read_without_options};
 
 /// A command of the program.
 #[derive(Clone, Copy, Debug, PartialEq, Eq)]
@@ -17,40 +19,39 @@ pub enum Command {
     UValue,
 }
 
-/// The command that these words name: its word, and behind `solve` its options. None where they have no reading.
-pub fn command_of(words: &[String]) -> Option<Command>
-    ensures names { MatchOption result (¬ HasReading (map string_bytes words.now)) (Names (map string_bytes words.now)) }
-    ensures ranges { IfSome result HasRanges }
+/// The command that these words name: its word, and behind `solve` its options. `NoReading` where they name none.
+pub fn command_of(alloc: Global, words: &[String]) -> Result<Command, WordsRefusal>
+    ensures names { IfOk result (Names (map string_bytes words.now)) }
+    ensures no_reading { IfErr result (λ why. why ≡ NoReading → ¬ HasReading (map string_bytes words.now)) }
+    ensures ranges { IfOk result HasRanges }
 {
     match words {
-        [word, rest @ ..] => command_with(word.as_str(), rest),
-        _ => None,
+        [word, ..] => command_with(alloc, word.as_str(), words),
+        _ => Err(WordsRefusal::NoReading),
     }
 }
 
-// The command of this word with the words behind it.
-fn command_with(word: &str, rest: &[String]) -> Option<Command>
-    ensures names { MatchOption result (¬ HasReading (word.now ∷ map string_bytes rest.now))
-        (Names (word.now ∷ map string_bytes rest.now)) }
-    ensures ranges { IfSome result HasRanges }
+// The command of these words, of which this is the first.
+fn command_with(alloc: Global, word: &str, words: &[String]) -> Result<Command, WordsRefusal>
+    requires first { slice_get (map string_bytes words.now) 0 ≡ Some word.now }
+    ensures names { IfOk result (Names (map string_bytes words.now)) }
+    ensures no_reading { IfErr result (λ why. why ≡ NoReading → ¬ HasReading (map string_bytes words.now)) }
+    ensures ranges { IfOk result HasRanges }
 {
     if word == "solve" {
-        return match read_options(rest) {
-            Some(options) => Some(Command::Solve(options)),
-            None => None,
-        };
-    }
-    if !rest.is_empty() {
-        return None;
+        return Ok(Command::Solve(read_options(alloc, words)?));
     }
     if word == "check" {
-        return Some(Command::Check);
+        read_without_options(alloc, "check", words)?;
+        return Ok(Command::Check);
     }
     if word == "report" {
-        return Some(Command::Report);
+        read_without_options(alloc, "report", words)?;
+        return Ok(Command::Report);
     }
     if word == "uvalue" {
-        return Some(Command::UValue);
+        read_without_options(alloc, "uvalue", words)?;
+        return Ok(Command::UValue);
     }
-    None
+    Err(WordsRefusal::NoReading)
 }

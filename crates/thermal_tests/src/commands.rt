@@ -97,22 +97,54 @@ solve --width 0 --grade 0 --halve 0 --sweeps 1|1 refused,NotBuilt;\n\
 solve --grade 12 --halve 6|1 refused,GridTooLarge,cells 543001536;\n\
 solve --halve 6 --grade 12|1 refused,GridTooLarge,lines x 2066;|1:detail,1,2|4:mat,masonry,0.6;mat,insulation,0.04|5:air,outside,0.04,0,0.1,0,1300.1;air,outside,0.04,0.1,1300.1,0,0.1;solid,insulation,0.1,100.1,0.1,1300.1;solid,insulation,100.1,1300.1,0.1,100.1|6:solid,masonry,100.1,300.1,100.1,1300.1;solid,masonry,300.1,1300.1,100.1,300.1;air,inside,0.13,300.1,1300.1,300.1,1300.1|7:\n\
 solve --grade 12 --halve 6|1 refused,Isolated,0.1 0 0;|6:|7:\n\
+solve --halve=6 --grade=12|1 refused,GridTooLarge,cells 543001536;\n\
+solve --width=5|1 refused,NotBuilt;\n\
+solve --width 1000000000 --grade 0 --sweeps=10000|1 refused,NotBuilt;\n\
+solve --width 00000000012|1 refused,NotBuilt;\n\
+solve --|1 refused,NotBuilt;\n\
+solve --width 5 --|1 refused,NotBuilt;\n\
+check --|0 accepted,inside,2702702702702700,2702702702702704;end;\n\
+report --|7 refused,NotFormat,record 1;|1:bundle,2\n\
+uvalue --|0 end;\n\
 solve --grade 13|2 refused,Usage;\n\
+solve --grade=13|2 refused,Usage;\n\
+solve --halve 7|2 refused,Usage;\n\
+solve --sweeps 0|2 refused,Usage;\n\
+solve --sweeps 10001|2 refused,Usage;\n\
+solve --width 1000000001|2 refused,Usage;\n\
+solve --width 5.0|2 refused,Usage;\n\
+solve --width -5|2 refused,Usage;\n\
+solve --width=|2 refused,Usage;\n\
 solve --grade|2 refused,Usage;\n\
 solve --halve 1 --halve 1|2 refused,Usage;\n\
+solve --halve=1 --halve 1|2 refused,Usage;\n\
+solve --wid 5|2 refused,Usage;\n\
 solve 5|2 refused,Usage;\n\
+solve -- 5|2 refused,Usage;\n\
+solve -h|2 refused,Usage;\n\
+solve --help|2 refused,Usage;\n\
+solve --version|2 refused,Usage;\n\
+solve help|2 refused,Usage;\n\
+solve |2 refused,Usage;\n\
+solve --width |2 refused,Usage;\n\
 uvalue --grade 1|2 refused,Usage;\n\
+uvalue |2 refused,Usage;\n\
 |2 refused,Usage;\n\
 chec|2 refused,Usage;\n\
 check check|2 refused,Usage;\n\
+check --help|2 refused,Usage;\n\
+check -- check|2 refused,Usage;\n\
 Check|2 refused,Usage;\n\
 report report|2 refused,Usage;\n\
+report -h|2 refused,Usage;\n\
 reports|2 refused,Usage;\n\
 uvalues|2 refused,Usage;\n\
 solv|2 refused,Usage;\n\
+demo 1|2 refused,Usage;\n\
 --help|2 refused,Usage;";
 
-// What a run tells of words and these bytes into a sink with this room: the exit code, a space and the text.
+// What a run tells of words and these bytes into a sink with this room: the exit code, a space and the text. The words
+// stand between spaces, and one may be empty; no text is no word.
 pub(crate) fn told(
     alloc: Global,
     text: &str,
@@ -120,8 +152,10 @@ pub(crate) fn told(
     room: usize,
 ) -> Result<Vec<u8>, AllocError> {
     let mut words = Vec::new(alloc);
-    for word in text.split_ascii_whitespace() {
-        words.push(String::from_str(alloc, word)?)?;
+    if !text.is_empty() {
+        for word in text.split(' ') {
+            words.push(String::from_str(alloc, word)?)?;
+        }
     }
     let mut source = SteadySource::new(bytes);
     let Ok(mut sink) = MemorySink::new(alloc, room, Vec::new(alloc)) else {
@@ -154,8 +188,9 @@ fn change<'a>(changes: &'a str, number: usize) -> Option<&'a str> {
     None
 }
 
-fn input(alloc: Global, word: &str, changes: &str) -> Result<Vec<u8>, AllocError> {
-    let example = if word == "check" || word == "report" {
+// The input of a case: the bundle for `check` and `report`, else the detail, with these changes.
+fn input(alloc: Global, words: &str, changes: &str) -> Result<Vec<u8>, AllocError> {
+    let example = if words.starts_with("check") || words.starts_with("report") {
         BUNDLE
     } else {
         DETAIL

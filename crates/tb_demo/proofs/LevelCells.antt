@@ -1,0 +1,66 @@
+-- The level grid of the section.
+use Rattle.std.proofs.Common.{◌≡◌, ℕ, ◌+◌, ◌-◌, ◌*◌, ◌≤◌, ◌==◌, List, length, arith, refl}
+use Rattle.std.proofs.lemmas.Bool.{eqb-true}
+use Rattle.tb_places.specs.declared.AxisName.{AxisName}
+use Rattle.tb_places.specs.declared.AxisName.TheVariants.{X, Y, Z}
+use Rattle.tb_places.specs.Places.{cell_count}
+use Rattle.tb_grid.specs.Axis.{IsAxis}
+use Rattle.tb_grid.specs.Grid.{Axes, counts_of, lines_of}
+use Rattle.tb_grid.specs.Levels.{IsLevelOf}
+use Rattle.tb_grid.proofs.CutLines.{cut_lines}
+use Rattle.tb_grid.proofs.LevelLines.{level_lines}
+use Rattle.tb_grid.proofs.Rises.{cut_increases}
+use Rattle.tb_geometry.specs.Base.{base_axes, base_lines, with_line}
+use Rattle.tb_geometry.proofs.Lines.{base_rises}
+use Rattle.tb_demo.specs.Level.{HasLevelCells, demo_grading}
+use Rattle.tb_demo.specs.Section.{section, storeys}
+use Rattle.tb_demo.proofs.Computed.{each_number}
+
+-- the lines of the level grid along an axis
+abbrev lines_along : ℕ → AxisName → List ℕ
+lines_along n X = cut_lines 2 (base_lines X (storeys n))
+lines_along n Y = cut_lines 2 (base_lines Y (storeys n))
+lines_along n Z = cut_lines 0 (base_lines Z (storeys n))
+
+abbrev level : ℕ → Axes
+level n = record { x = lines_along n X; y = lines_along n Y; z = lines_along n Z }
+
+is_level : (n : ℕ) → IsLevelOf demo_grading (base_axes (storeys n)) (level n)
+is_level n X = level_lines 2 0 (base_lines X (storeys n)) (base_rises X (storeys n))
+is_level n Y = level_lines 2 0 (base_lines Y (storeys n)) (base_rises Y (storeys n))
+is_level n Z = level_lines 0 0 (base_lines Z (storeys n)) (base_rises Z (storeys n))
+
+-- 20 cells along x, 12 a storey along y, one along z
+x_lines : (n : ℕ) → 1 ≤ n → n ≤ 16 → length (lines_along n X) ≡ 21
+unfolding base_lines with_line
+x_lines n some few = eqb-true (length (lines_along n X)) 21 (each_number (λ k. length (lines_along k X) == 21) refl n some few)
+
+y_lines : (n : ℕ) → 1 ≤ n → n ≤ 16 → length (lines_along n Y) ≡ 12 * n + 1
+unfolding base_lines with_line
+y_lines n some few = eqb-true (length (lines_along n Y)) (12 * n + 1) (each_number (λ k. length (lines_along k Y) == 12 * k + 1) refl n some few)
+
+z_lines : (n : ℕ) → 1 ≤ n → n ≤ 16 → length (lines_along n Z) ≡ 2
+unfolding base_lines with_line
+z_lines n some few = eqb-true (length (lines_along n Z)) 2 (each_number (λ k. length (lines_along k Z) == 2) refl n some few)
+
+are_axes : (n : ℕ) → 1 ≤ n → n ≤ 16 → (a : AxisName) → IsAxis (lines_of (level n) a)
+are_axes n some few X = record { least = omega (arith, x_lines n some few); most = omega (arith, x_lines n some few); rising = cut_increases 2 (base_lines X (storeys n)) (base_rises X (storeys n)) }
+are_axes n some few Y = record { least = omega (arith, y_lines n some few); most = omega (arith, y_lines n some few); rising = cut_increases 2 (base_lines Y (storeys n)) (base_rises Y (storeys n)) }
+are_axes n some few Z = record { least = omega (arith, z_lines n some few); most = omega (arith, z_lines n some few); rising = cut_increases 0 (base_lines Z (storeys n)) (base_rises Z (storeys n)) }
+
+-- so many cells by the numbers of lines
+counted_by : (n x y z : ℕ) → x ≡ 21 → y ≡ 12 * n + 1 → z ≡ 2 → (x - 1) * ((y - 1) * (z - 1)) ≡ 240 * n
+counted_by n x y z on_x on_y on_z =
+    let one : 12 * n + 1 - 1 ≡ 12 * n = omega arith in
+    rw (on_x, on_y, on_z, one) (omega arith)
+
+counted : (n : ℕ) → 1 ≤ n → n ≤ 16 → cell_count (counts_of (level n)) ≡ 240 * n
+counted n some few = counted_by n _ _ _ (x_lines n some few) (y_lines n some few) (z_lines n some few)
+
+pub section_level : (n : ℕ) → 1 ≤ n → n ≤ 16 → HasLevelCells (section n) (240 * n)
+section_level n some few = record {
+  level = level n;
+  is_level = is_level n;
+  is_grid = record { axes = are_axes n some few; few = omega (arith, counted n some few) };
+  counted = counted n some few;
+}
