@@ -39,7 +39,7 @@ fn couple_four(
 }
 
 impl Form {
-    // Couples the nodes of a cell along an axis.
+    // Couples the nodes of a cell along an axis, unless they share their places.
     fn couple_along(
         &self,
         matrix: &mut Matrix,
@@ -53,6 +53,9 @@ impl Form {
             AxisName::Z => (self.reach.x, self.reach.y),
         };
         let stride = self.points.stride(axis);
+        if stride.places == 0 {
+            return Some(());
+        }
         let high = place.saturating_add(stride.places);
         let nodes = corners(high, second, third);
         couple_four(matrix, nodes, stride.neighbour, lumped(weight))
