@@ -45,6 +45,9 @@ impl PartialEq for Field {
 }
 
 impl Field {
+    ghost use Rattle.std.specs.Borrow.{sem};
+    ghost use Rattle.tb_field.specs.Lending.{LendsTemperatures};
+
     /// The field that is 0 at each node of a grid.
     ///
     /// # Errors
@@ -68,6 +71,14 @@ impl Field {
         ensures { result.now ≡ self.now }
     {
         self.values.as_slice()
+    }
+
+    /// The values, in the index order of nodes, to be changed.
+    pub fn values_mut(&mut self) -> &mut [i64]
+        ensures* lends { sem 𝓛 (LendsTemperatures self.entry result) }
+        ensures value { result.now ≡ self.old }
+    {
+        self.values.as_mut_slice()
     }
 
     /// The value at a node.
