@@ -73,7 +73,12 @@ impl CellTable {
     ///
     /// # Errors
     /// Memory ran out.
-    pub fn new(alloc: Global, body: &Body, grid: &Grid, case: Case) -> Result<CellTable, AllocError> {
+    pub fn new(
+        alloc: Global,
+        body: &Body,
+        grid: &Grid,
+        case: Case,
+    ) -> Result<CellTable, AllocError> {
         let base = body.base();
         Ok(CellTable {
             counts: grid.counts(),

@@ -15,6 +15,9 @@ pub const FIELD_EXPONENT: i32 = -20;
 
 const FIELD_BITS: u32 = 20;
 
+/// The temperature 1 in the solver's units.
+pub const WARM: i64 = MOST_TEMPERATURE << 20;
+
 /// The derivative of the energy of a field, whose warm environments are at 1, in the solver's units.
 #[derive(Clone, Copy)]
 pub struct Derivative<'a> {
@@ -61,13 +64,22 @@ fn set(field: &mut [i64], node: usize, found: Entry)
     }
 }
 
-/// Makes a field of what a descent found: the temperatures are rounded, and from 0 to 10⁸.
-pub fn write_found(points: Points, counts: CellCounts, found: &[Entry], field: &mut [i64])
+// Whether what was found is out of the range.
+fn is_out(found: Entry) -> bool {
+    found.value() < 0 || found.value() > WARM
+}
+
+/// Makes a field of what a descent found: the temperatures are rounded, and from 0 to 10⁸. Tells whether some of them were
+/// out of that range.
+pub fn write_found(points: Points, counts: CellCounts, found: &[Entry], field: &mut [i64]) -> bool
     ensures { All IsTemperature field.old → All IsTemperature field.new }
 {
+    let mut is_cut = false;
     for number in 0..counts.nodes() {
         let at = points.at(counts.node_place(NodeId(number)));
         let value = found.get(at).copied().unwrap_or(Entry::ZERO);
         set(field, number as usize, value);
+        is_cut |= is_out(value);
     }
+    is_cut
 }

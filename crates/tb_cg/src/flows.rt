@@ -83,7 +83,14 @@ fn flow_at(
     };
     let (Link::Inner { conductance } | Link::Surface { conductance, .. }) = link;
     let low = seen(cells, points, axis, place, temperatures, present);
-    let high = seen(cells, points, axis, next(axis, place), temperatures, present);
+    let high = seen(
+        cells,
+        points,
+        axis,
+        next(axis, place),
+        temperatures,
+        present,
+    );
     flow(conductance.scaled(scale), low, high, scale)
 }
 

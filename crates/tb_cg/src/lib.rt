@@ -28,6 +28,7 @@ pub use cells::{CellAxis, Cells, Filling};
 pub use field::{Derivative, FIELD_EXPONENT, MOST_TEMPERATURE, begin_at, write_found};
 pub use flows::{MOST_FLOW, face_flows};
 pub use form::Form;
+pub use nodes::Held;
 pub use points::Points;
 pub use start::start_field;
 pub use system::{RIGHT_SIDE_EXPONENT, couple_cells};

@@ -133,13 +133,17 @@ fn descend(
     solver: &mut Solver,
     field: &mut [i64],
 ) -> Option<()> {
-    form.couple_nodes(matrix)?;
-    matrix.finish(980)?;
     begin_at(form, cells.counts, field, solver)?;
+    let free = Held {
+        temperatures: &[],
+        descent: &[],
+    };
+    form.couple_nodes(free, matrix)?;
+    matrix.finish(980)?;
     for _ in 0..30 {
         let _bits = solver.step(form, matrix, i32::MIN)?;
     }
-    write_found(form.points, cells.counts, solver.solution(), field);
+    let _is_cut = write_found(form.points, cells.counts, solver.solution(), field);
     Some(())
 }
 

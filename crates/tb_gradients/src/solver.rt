@@ -162,6 +162,13 @@ impl Solver {
         self.solution.entries()
     }
 
+    /// The residual: the way of steepest descent, times a power of two.
+    pub fn residual(&self) -> &[Entry]
+        ensures { length result.now ≡ places_of self.now.layout }
+    {
+        self.residual.entries()
+    }
+
     // Begins anew: the next search direction will have no regard for the last one.
     fn restart(&mut self)
         ensures { self.new.layout ≡ self.old.layout }
