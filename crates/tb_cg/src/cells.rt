@@ -10,14 +10,22 @@ pub enum Filling {
     Air { rs: u32, is_warm: bool },
 }
 
-/// The cells of a grid: their widths along each axis in 0.1 mm, and what fills them, in the index order of cells. A cell
-/// without a filling isn't coupled with others.
+/// The cells of a grid along an axis: their widths in 0.1 mm, and in which interval of a coarser grid each lies.
+#[derive(Clone, Copy)]
+pub struct CellAxis<'a> {
+    pub widths: &'a [u32],
+    pub bases: &'a [u32],
+}
+
+/// The cells of a grid, with what fills the cells of a coarser grid, in whose index order: of each cell that lies in them.
+/// A cell without a filling isn't coupled with others.
 #[derive(Clone, Copy)]
 pub struct Cells<'a> {
     pub counts: CellCounts,
-    pub x: &'a [u32],
-    pub y: &'a [u32],
-    pub z: &'a [u32],
+    pub x: CellAxis<'a>,
+    pub y: CellAxis<'a>,
+    pub z: CellAxis<'a>,
+    pub base: CellCounts,
     pub fillings: &'a [Filling],
 }
 
@@ -42,12 +50,12 @@ pub const AXES: [AxisName; 3] = [AxisName::X, AxisName::Y, AxisName::Z];
 impl Cells<'_> {
     /// The width of a cell along an axis.
     pub fn width(self, axis: AxisName, place: Place) -> u64 {
-        let (widths, at) = match axis {
+        let (line, at) = match axis {
             AxisName::X => (self.x, place.i),
             AxisName::Y => (self.y, place.j),
             AxisName::Z => (self.z, place.k),
         };
-        match widths.get(at as usize) {
+        match line.widths.get(at as usize) {
             Some(width) => u64::from(*width),
             None => 1,
         }
@@ -65,13 +73,11 @@ impl Cells<'_> {
 
     /// What fills the cell at a place, where there is one.
     pub fn filling(self, place: Place) -> Option<Filling> {
-        let Place { i, j, k } = place;
-        let CellCounts { x, y, z, .. } = self.counts;
-        if i >= x || j >= y || k >= z {
-            return None;
-        }
-        let row = u64::from(j).saturating_add(u64::from(y).saturating_mul(u64::from(k)));
-        let number = u64::from(i).saturating_add(u64::from(x).saturating_mul(row));
+        let i = self.x.bases.get(place.i as usize).copied()?;
+        let j = self.y.bases.get(place.j as usize).copied()?;
+        let k = self.z.bases.get(place.k as usize).copied()?;
+        let row = u64::from(j).saturating_add(u64::from(self.base.y).saturating_mul(u64::from(k)));
+        let number = u64::from(i).saturating_add(u64::from(self.base.x).saturating_mul(row));
         self.fillings.get(number as usize).copied()
     }
 

@@ -15,6 +15,9 @@ pub const FIELD_EXPONENT: i32 = -20;
 
 const FIELD_BITS: u32 = 20;
 
+/// The temperature 1 in the solver's units.
+pub const WARM: i64 = MOST_TEMPERATURE << 20;
+
 /// The derivative of the energy of a field, whose warm environments are at 1, in the solver's units.
 #[derive(Clone, Copy)]
 pub struct Derivative<'a> {
@@ -35,42 +38,48 @@ impl Operator for Derivative<'_> {
 /// Begins a descent at a field: node temperatures in the index order of nodes, in 10⁻⁸ of the difference. None where a
 /// number doesn't fit, or the solver has another layout than the form.
 pub fn begin_at(form: &Form, counts: CellCounts, field: &[i64], solver: &mut Solver) -> Option<()> {
-    solver.clear_field(FIELD_EXPONENT);
+    solver.clear_solution(FIELD_EXPONENT);
     for number in 0..counts.nodes() {
         let at = form.points.at(counts.node_place(NodeId(number)));
         let temperature = field.get(number as usize).copied()?;
-        solver.add_field(at, entry(temperature))?;
+        solver.set_solution(at, entry(temperature))?;
     }
-    solver.descend(&Derivative { form })?;
-    solver.start(FIELD_EXPONENT);
-    Some(())
+    solver.descend(&Derivative { form })
 }
 
-// A temperature after a change in the solver's units: rounded, from 0 to 10⁸.
-fn changed(temperature: i64, change: Entry) -> i64
+// A temperature from the solver's units: rounded, from 0 to 10⁸.
+fn rounded(found: Entry) -> i64
     ensures { IsTemperature result }
 {
     let half = 1i64 << (FIELD_BITS - 1);
-    let whole = change.value().saturating_add(half) >> FIELD_BITS;
-    temperature.saturating_add(whole).clamp(0, MOST_TEMPERATURE)
+    (found.value().saturating_add(half) >> FIELD_BITS).clamp(0, MOST_TEMPERATURE)
 }
 
-// Changes a temperature where there is one.
-fn change_at(field: &mut [i64], node: usize, change: Entry)
+// Sets a temperature where there is one.
+fn set(field: &mut [i64], node: usize, found: Entry)
     ensures { All IsTemperature field.old → All IsTemperature field.new }
 {
     if node < field.len() {
-        field[node] = changed(field[node], change);
+        field[node] = rounded(found);
     }
 }
 
-/// Adds what the descent found to the field that it began at: the temperatures are rounded, and from 0 to 10⁸.
-pub fn add_found(points: Points, counts: CellCounts, found: &[Entry], field: &mut [i64])
+// Whether what was found is out of the range.
+fn is_out(found: Entry) -> bool {
+    found.value() < 0 || found.value() > WARM
+}
+
+/// Makes a field of what a descent found: the temperatures are rounded, and from 0 to 10⁸. Tells whether some of them were
+/// out of that range.
+pub fn write_found(points: Points, counts: CellCounts, found: &[Entry], field: &mut [i64]) -> bool
     ensures { All IsTemperature field.old → All IsTemperature field.new }
 {
+    let mut is_cut = false;
     for number in 0..counts.nodes() {
         let at = points.at(counts.node_place(NodeId(number)));
-        let change = found.get(at).copied().unwrap_or(Entry::ZERO);
-        change_at(field, number as usize, change);
+        let value = found.get(at).copied().unwrap_or(Entry::ZERO);
+        set(field, number as usize, value);
+        is_cut |= is_out(value);
     }
+    is_cut
 }

@@ -6,14 +6,12 @@ ghost use Rattle.tb_grid.specs.Views.{along_axes};
 
 use crate::cells::{AXES, Cells, Link, next};
 use crate::points::Points;
+use crate::potential::potential;
 use tb_gradients::{Coupling, Entry, SOLUTION_EXPONENT};
 use tb_grid::{AxisName, CellId, Place};
 
 /// The greatest flow through a face, in either direction, in nW per unit difference.
 pub const MOST_FLOW: i64 = 1_000_000_000_000;
-
-// The temperature 1.
-const ONE: i64 = 1 << 50;
 
 // The temperature at the place of a cell.
 fn temperature(temperatures: &[Entry], at: usize) -> i64
@@ -23,13 +21,6 @@ fn temperature(temperatures: &[Entry], at: usize) -> i64
         Some(entry) => entry.value(),
         None => 0,
     }
-}
-
-// The temperature of an environment.
-fn level(is_warm: bool) -> i64
-    ensures { unsigned_abs result ≤ 2 ^ 53 }
-{
-    if is_warm { ONE } else { 0 }
 }
 
 // The flow from a temperature to another through a conductance that was scaled, in nW, rounded.
@@ -61,6 +52,20 @@ fn within(flow: i64) -> i64
     }
 }
 
+// The temperature of a cell, seen along an axis, or of an environment.
+fn seen(
+    cells: Cells,
+    points: Points,
+    axis: AxisName,
+    place: Place,
+    temperatures: &[Entry],
+    present: &[i64],
+) -> i64
+    ensures { unsigned_abs result ≤ 2 ^ 54 }
+{
+    temperature(temperatures, points.at(place)) + potential(cells, present, axis, place)
+}
+
 // The flow from a cell to the next one along an axis.
 fn flow_at(
     cells: Cells,
@@ -69,31 +74,24 @@ fn flow_at(
     place: Place,
     scale: i32,
     temperatures: &[Entry],
+    present: &[i64],
 ) -> i64
     ensures { IsFlow result }
 {
-    let low = temperature(temperatures, points.at(place));
-    let high = temperature(temperatures, points.at(next(axis, place)));
-    match cells.link(axis, place) {
-        Some(Link::Inner { conductance }) => flow(conductance.scaled(scale), low, high, scale),
-        Some(
-            Link::Surface {
-                conductance,
-                is_warm,
-                low_is_air,
-                ..
-            },
-        ) => {
-            let conductance = conductance.scaled(scale);
-            let environment = level(is_warm);
-            if low_is_air {
-                flow(conductance, environment, high, scale)
-            } else {
-                flow(conductance, low, environment, scale)
-            }
-        }
-        None => 0,
-    }
+    let Some(link) = cells.link(axis, place) else {
+        return 0;
+    };
+    let (Link::Inner { conductance } | Link::Surface { conductance, .. }) = link;
+    let low = seen(cells, points, axis, place, temperatures, present);
+    let high = seen(
+        cells,
+        points,
+        axis,
+        next(axis, place),
+        temperatures,
+        present,
+    );
+    flow(conductance.scaled(scale), low, high, scale)
 }
 
 // Sets a value where there is one.
@@ -108,20 +106,21 @@ fn set(values: &mut [i64], at: usize, value: i64)
 
 /// The flows of these temperatures through the faces, in the index order of faces, in nW per unit difference, positive in
 /// the direction of the face's axis: rounded, and within 10¹² in either direction. Temperatures are times 2⁻⁵⁰, at the
-/// places of the cells. The scale is that of [`couple_cells`](crate::couple_cells). Where a face has no cell below it, the list
-/// keeps what it had: begin with zeros.
+/// places of the cells. The scale and the present flux are those of [`couple_cells`](crate::couple_cells). Where a face has
+/// no cell below it, the list keeps what it had: begin with zeros.
 pub fn face_flows(
     cells: Cells,
     points: Points,
     temperatures: &[Entry],
     scale: i32,
+    present: &[i64],
     flows: &mut [i64],
 )
     ensures { All IsFlow flows.old → All IsFlow flows.new }
 {
     for number in 0..cells.counts.cells() {
         let place = cells.counts.cell_place(CellId(number));
-        face_flows_at(cells, points, temperatures, scale, place, flows);
+        face_flows_at(cells, points, temperatures, scale, place, present, flows);
     }
 }
 
@@ -132,6 +131,7 @@ fn face_flows_at(
     temperatures: &[Entry],
     scale: i32,
     place: Place,
+    present: &[i64],
     flows: &mut [i64],
 )
     requires { IsCell (along_axes cells.counts) place }
@@ -139,7 +139,7 @@ fn face_flows_at(
 {
     for axis in AXES {
         let face = cells.counts.high_face(axis, place);
-        let value = flow_at(cells, points, axis, place, scale, temperatures);
+        let value = flow_at(cells, points, axis, place, scale, temperatures, present);
         set(flows, face.0 as usize, value);
     }
 }

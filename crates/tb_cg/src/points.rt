@@ -12,6 +12,9 @@ pub struct Stride {
 /// The nodes of a grid in a list. A cell has the place of its lowest node, so that one layout serves both. The axis with
 /// the most nodes goes from layer to layer, so that layers are small, and the one with the next most along rows, so that
 /// cells follow one another.
+///
+/// Along an axis with one cell no heat flows, since the hull is adiabatic: the two nodes at its ends share a place, and
+/// are at a distance of 0.
 #[derive(Clone, Copy, Debug)]
 pub struct Points {
     pub layout: Layout,
@@ -23,9 +26,9 @@ pub struct Points {
 impl Points {
     /// The nodes of a grid with so many cells, unless they are too many.
     pub fn new(counts: CellCounts) -> Option<Points> {
-        let x = (counts.x as usize).saturating_add(1);
-        let y = (counts.y as usize).saturating_add(1);
-        let z = (counts.z as usize).saturating_add(1);
+        let x = nodes_along(counts.x);
+        let y = nodes_along(counts.y);
+        let z = nodes_along(counts.z);
         if z >= x && z >= y {
             if x >= y {
                 let (layout, x, y, z) = lay(x, y, z)?;
@@ -73,19 +76,33 @@ impl Points {
     }
 }
 
+// How many nodes have places of their own along an axis with so many cells.
+fn nodes_along(cells: u32) -> usize {
+    if cells == 1 {
+        1
+    } else {
+        (cells as usize).saturating_add(1)
+    }
+}
+
+// The distance of neighbours of which there are so many along an axis.
+fn distance(nodes: usize, places: usize) -> usize {
+    if nodes == 1 { 0 } else { places }
+}
+
 // The layout of so many nodes in a row, rows in a layer and layers, and the strides along the three.
 fn lay(row: usize, rows: usize, layers: usize) -> Option<(Layout, Stride, Stride, Stride)> {
     let layout = Layout::new(row, rows, layers)?;
     let in_row = Stride {
-        places: 1,
+        places: distance(row, 1),
         neighbour: Neighbour::BeforeOnX,
     };
     let to_next_row = Stride {
-        places: layout.row(),
+        places: distance(rows, layout.row()),
         neighbour: Neighbour::BeforeOnY,
     };
     let to_next_layer = Stride {
-        places: layout.layer(),
+        places: distance(layers, layout.layer()),
         neighbour: Neighbour::BeforeOnZ,
     };
     Some((layout, in_row, to_next_row, to_next_layer))

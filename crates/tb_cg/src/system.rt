@@ -1,6 +1,7 @@
 // The system of the temperatures in the middles of the cells.
 use crate::cells::{AXES, Cells, Link, next};
 use crate::points::Points;
+use crate::potential::potential;
 use crate::ratio::scale_for;
 use tb_gradients::{Coupling, Entry, Matrix, Neighbour, Solver};
 use tb_grid::{AxisName, CellId, Place};
@@ -30,9 +31,15 @@ fn scale_of(cells: Cells) -> i32 {
     scale_for(bits)
 }
 
-// The part of a warm surface in the right-hand side.
-fn source(coupling: Coupling) -> Entry {
-    Entry::new(i128::from(coupling.value() >> RIGHT_SIDE_EXPONENT)).unwrap_or(Entry::ZERO)
+// What a difference of potentials drives through a coupling, as a part of the right-hand side.
+fn driven(coupling: Coupling, low: i64, high: i64) -> Entry {
+    let difference = i128::from(low) - i128::from(high);
+    let whole = i128::from(coupling.value()).saturating_mul(difference);
+    Entry::new(whole >> (50 + RIGHT_SIDE_EXPONENT)).unwrap_or(Entry::ZERO)
+}
+
+fn negative(entry: Entry) -> Entry {
+    Entry::new(-i128::from(entry.value())).unwrap_or(Entry::ZERO)
 }
 
 // Couples a cell with the next one along an axis, or with the environment.
@@ -42,33 +49,39 @@ fn couple_at(
     axis: AxisName,
     place: Place,
     scale: i32,
+    flows: &[i64],
     matrix: &mut Matrix,
     solver: &mut Solver,
 ) -> Option<()> {
     let above = next(axis, place);
-    match cells.link(axis, place) {
-        Some(Link::Inner { conductance }) => matrix.couple(
-            points.at(above),
-            points.stride(axis).neighbour,
-            conductance.scaled(scale),
-        ),
-        Some(
-            Link::Surface {
-                conductance,
-                is_warm,
-                low_is_air,
-                ..
-            },
-        ) => {
-            let at = points.at(if low_is_air { above } else { place });
+    let Some(link) = cells.link(axis, place) else {
+        return Some(());
+    };
+    let low = potential(cells, flows, axis, place);
+    let high = potential(cells, flows, axis, above);
+    match link {
+        Link::Inner { conductance } => {
             let coupling = conductance.scaled(scale);
-            matrix.couple(at, Neighbour::Surroundings, coupling)?;
-            if is_warm {
-                solver.add_residual(at, source(coupling))?;
-            }
-            Some(())
+            let driven = driven(coupling, low, high);
+            matrix.couple(points.at(above), points.stride(axis).neighbour, coupling)?;
+            solver.add_residual(points.at(place), negative(driven))?;
+            solver.add_residual(points.at(above), driven)
         }
-        None => Some(()),
+        Link::Surface {
+            conductance,
+            low_is_air,
+            ..
+        } => {
+            let coupling = conductance.scaled(scale);
+            let driven = driven(coupling, low, high);
+            if low_is_air {
+                matrix.couple(points.at(above), Neighbour::Surroundings, coupling)?;
+                solver.add_residual(points.at(above), driven)
+            } else {
+                matrix.couple(points.at(place), Neighbour::Surroundings, coupling)?;
+                solver.add_residual(points.at(place), negative(driven))
+            }
+        }
     }
 }
 
@@ -78,21 +91,28 @@ fn couple_cell(
     points: Points,
     place: Place,
     scale: i32,
+    flows: &[i64],
     matrix: &mut Matrix,
     solver: &mut Solver,
 ) -> Option<()> {
     for axis in AXES {
-        couple_at(cells, points, axis, place, scale, matrix, solver)?;
+        couple_at(cells, points, axis, place, scale, flows, matrix, solver)?;
     }
     Some(())
 }
 
 /// Makes the system of the temperatures in the middles of the solid cells: the matrix has the conductance from middle to
-/// middle, or from middle to environment, and the solver's residual what the environments at 1 give. Both times `2^scale`,
-/// in 10⁻⁸ W/K: the answer is the scale. None where a sum doesn't fit, or the matrix or the solver have another layout.
+/// middle, or from middle to environment, and the solver's residual what the environments at 1 give, and what a present
+/// flux asks for beside. Both times `2^scale`, in 10⁻⁸ W/K: the answer is the scale. None where a sum doesn't fit, or the
+/// matrix or the solver have another layout.
+///
+/// The present flux is in the index order of faces, in nW per unit difference. Where it is 0, or there is none, the
+/// solution's flows ([`face_flows`](crate::face_flows)) are those of the resistances from middle to middle. Else they are
+/// better than it, but for the rounding: a step of preconditioned descent.
 pub fn couple_cells(
     cells: Cells,
     points: Points,
+    flows: &[i64],
     matrix: &mut Matrix,
     solver: &mut Solver,
 ) -> Option<i32> {
@@ -101,7 +121,7 @@ pub fn couple_cells(
     let scale = scale_of(cells);
     for number in 0..cells.counts.cells() {
         let place = cells.counts.cell_place(CellId(number));
-        couple_cell(cells, points, place, scale, matrix, solver)?;
+        couple_cell(cells, points, place, scale, flows, matrix, solver)?;
     }
     Some(scale)
 }

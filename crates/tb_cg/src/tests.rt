@@ -30,6 +30,11 @@ const WALL: [Filling; 10] = [
 
 const WIDTHS: [u32; 10] = [200; 10];
 
+const ACROSS: CellAxis = CellAxis {
+    widths: &[10_000],
+    bases: &[0],
+};
+
 const LINES: [u32; 11] = [0, 200, 400, 600, 800, 1000, 1200, 1400, 1600, 1800, 2000];
 
 fn axis(alloc: Global, lines: &[u32]) -> Result<Axis, Fail>
@@ -48,9 +53,13 @@ fn wall(alloc: Global) -> Result<Grid, Fail> {
 fn cells_of(grid: &Grid) -> Cells<'static> {
     Cells {
         counts: grid.counts(),
-        x: &WIDTHS,
-        y: &[10_000],
-        z: &[10_000],
+        x: CellAxis {
+            widths: &WIDTHS,
+            bases: &[0, 1, 2, 3, 4, 5, 6, 7, 8, 9],
+        },
+        y: ACROSS,
+        z: ACROSS,
+        base: grid.counts(),
         fillings: &WALL,
     }
 }
@@ -63,10 +72,10 @@ fn solve_flows(
     solver: &mut Solver,
     flows: &mut [i64],
 ) -> Option<End> {
-    let scale = couple_cells(cells, points, matrix, solver)?;
+    let scale = couple_cells(cells, points, &[], matrix, solver)?;
     matrix.finish(998)?;
     let outcome = solver.solve(matrix, matrix, 100, 30);
-    face_flows(cells, points, solver.solution(), scale, flows);
+    face_flows(cells, points, solver.solution(), scale, &[], flows);
     Some(outcome.end)
 }
 
@@ -124,13 +133,17 @@ fn descend(
     solver: &mut Solver,
     field: &mut [i64],
 ) -> Option<()> {
-    form.couple_nodes(matrix)?;
-    matrix.finish(980)?;
     begin_at(form, cells.counts, field, solver)?;
+    let free = Held {
+        temperatures: &[],
+        descent: &[],
+    };
+    form.couple_nodes(free, matrix)?;
+    matrix.finish(980)?;
     for _ in 0..30 {
         let _bits = solver.step(form, matrix, i32::MIN)?;
     }
-    add_found(form.points, cells.counts, solver.solution(), field);
+    let _is_cut = write_found(form.points, cells.counts, solver.solution(), field);
     Some(())
 }
 

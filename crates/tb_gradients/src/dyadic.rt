@@ -36,6 +36,12 @@ impl Dyadic {
         exponent: 0,
     };
 
+    // With as many bits as a quotient has.
+    pub(crate) const ONE: Dyadic = Dyadic {
+        value: 1 << 44,
+        exponent: -44,
+    };
+
     /// The least whole number above the binary logarithm of the number's magnitude.
     pub fn logarithm(self) -> i32 {
         bit_length(self.value).saturating_add(self.exponent)

@@ -155,46 +155,65 @@ impl Solver {
         self.residual.add(at, entry)
     }
 
-    /// The solution, each entry times `2^-50` after [`solve`](Solver::solve).
+    /// The solution: each entry times `2^-50` after [`solve`](Solver::solve), and else as it was set.
     pub fn solution(&self) -> &[Entry]
         ensures { length result.now ≡ places_of self.now.layout }
     {
         self.solution.entries()
     }
 
-    /// Begins with a solution of zeros, each entry times `2^exponent`.
-    pub fn start(&mut self, exponent: i32)
+    /// The residual: the way of steepest descent, times a power of two.
+    pub fn residual(&self) -> &[Entry]
+        ensures { length result.now ≡ places_of self.now.layout }
+    {
+        self.residual.entries()
+    }
+
+    // Begins anew: the next search direction will have no regard for the last one.
+    fn restart(&mut self)
         ensures { self.new.layout ≡ self.old.layout }
     {
-        self.solution.clear(exponent);
         self.correction.clear(self.residual.exponent);
         self.image.clear(self.residual.exponent);
         self.curvature = Dyadic::ZERO;
     }
 
-    /// Makes the field that a descent begins at zero, with an exponent for the entries that will be added.
-    pub fn clear_field(&mut self, exponent: i32)
+    /// Makes the solution zero, with an exponent for the entries that will be set.
+    pub fn clear_solution(&mut self, exponent: i32)
         ensures { self.new.layout ≡ self.old.layout }
     {
-        self.direction.clear(exponent);
+        self.solution.clear(exponent);
     }
 
-    /// Adds to the field that a descent begins at. None, and nothing changes, where there is no such place or the sum
-    /// doesn't fit.
-    pub fn add_field(&mut self, at: usize, entry: Entry) -> Option<()>
+    /// Sets the solution at a place. None, and nothing changes, where there is no such place.
+    pub fn set_solution(&mut self, at: usize, entry: Entry) -> Option<()>
         ensures { self.new.layout ≡ self.old.layout }
     {
-        self.direction.add(at, entry)
+        self.solution.set(at, entry)
     }
 
-    /// Makes the residual the negative derivative of an energy at the field that a descent begins at. The solution will be
-    /// what is to be added to it. None where a number doesn't fit.
+    /// Begins a descent at the solution: the residual becomes the negative derivative of an energy there. None where a
+    /// number doesn't fit.
     pub fn descend<A: Operator>(&mut self, derivative: &A) -> Option<()>
         ensures { self.new.layout ≡ self.old.layout }
     {
-        self.image.clear(self.direction.exponent);
-        apply(derivative, &self.direction, &mut self.image)?;
-        self.residual.copy_negative(&self.image)
+        self.image.clear(self.solution.exponent);
+        apply(derivative, &self.solution, &mut self.image)?;
+        self.residual.copy_negative(&self.image)?;
+        self.restart();
+        Some(())
+    }
+
+    /// Takes off the residual what the solution gives of it, so that steps go on from the solution. None where a number
+    /// doesn't fit.
+    pub fn resume<A: Operator>(&mut self, operator: &A) -> Option<()>
+        ensures { self.new.layout ≡ self.old.layout }
+    {
+        self.image.clear(self.residual.exponent);
+        apply(operator, &self.solution, &mut self.image)?;
+        self.residual.reduce(Dyadic::ONE, &self.image)?;
+        self.restart();
+        Some(())
     }
 
     // Finds the next search direction: the correction without its part along the last one.
@@ -259,7 +278,8 @@ impl Solver {
         Some(bits)
     }
 
-    /// Solves for the residual, until it is `2^-accuracy` of the first or a limit of steps is reached.
+    /// Solves for the residual from a solution of zeros, until it is `2^-accuracy` of the first or a limit of steps is
+    /// reached.
     pub fn solve<A: Operator>(
         &mut self,
         operator: &A,
@@ -269,7 +289,21 @@ impl Solver {
     ) -> Outcome
         ensures { self.new.layout ≡ self.old.layout }
     {
-        self.start(SOLUTION_EXPONENT);
+        self.clear_solution(SOLUTION_EXPONENT);
+        self.restart();
+        self.go_on(operator, preconditioner, limit, accuracy)
+    }
+
+    /// Makes steps until the residual is `2^-accuracy` of the first, or a limit of steps is reached.
+    pub fn go_on<A: Operator>(
+        &mut self,
+        operator: &A,
+        preconditioner: &Matrix,
+        limit: u32,
+        accuracy: u8,
+    ) -> Outcome
+        ensures { self.new.layout ≡ self.old.layout }
+    {
         let mut least = i32::MIN;
         for steps in 0..limit {
             let Some(bits) = self.step(operator, preconditioner, least) else {

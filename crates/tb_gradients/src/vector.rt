@@ -67,6 +67,19 @@ impl Vector {
         Some(())
     }
 
+    /// Sets the entry at a place. The exponent stays. None, and nothing changes, where there is no such place.
+    pub fn set(&mut self, at: usize, entry: Entry) -> Option<()>
+        ensures { vec_len self.new.entries ≡ vec_len self.old.entries }
+    {
+        let entries = self.entries.as_mut_slice();
+        if at >= entries.len() {
+            return None;
+        }
+        entries[at] = entry;
+        self.magnitude |= entry.magnitude();
+        Some(())
+    }
+
     /// Sets all entries to zero, and the exponent.
     pub fn clear(&mut self, exponent: i32)
         ensures { vec_len self.new.entries ≡ vec_len self.old.entries }
