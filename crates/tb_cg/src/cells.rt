@@ -89,6 +89,16 @@ impl Cells<'_> {
         }
     }
 
+    /// The resistance of the surface between the cell at a place and the next one along an axis, and whether its environment is
+    /// at 1: where one of them is a solid and the other is air.
+    pub fn surface(self, axis: AxisName, place: Place) -> Option<(u32, bool)> {
+        match (self.filling(place)?, self.filling(next(axis, place))?) {
+            (Filling::Solid { .. }, Filling::Air { rs, is_warm }) => Some((rs, is_warm)),
+            (Filling::Air { rs, is_warm }, Filling::Solid { .. }) => Some((rs, is_warm)),
+            _ => None,
+        }
+    }
+
     /// What lies between the cell at a place and the next one along an axis.
     pub fn link(self, axis: AxisName, place: Place) -> Option<Link> {
         let above = next(axis, place);

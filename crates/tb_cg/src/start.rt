@@ -2,7 +2,7 @@
 ghost use Rattle.std.specs.Prelude.{All};
 ghost use Rattle.tb_cg.specs.Limits.{IsTemperature};
 
-use crate::cells::{AXES, Cells, Link};
+use crate::cells::{AXES, Cells};
 use crate::field::MOST_TEMPERATURE;
 use crate::points::Points;
 use tb_gradients::Entry;
@@ -123,7 +123,7 @@ fn with_cell(
 // The mean with the surface above the cell below the node along an axis: it weighs 1/(2 Rs) over its area, times the
 // widths of all cells at the node.
 fn with_surface(cells: Cells, axis: AxisName, node: Place, cell: Place, mean: Mean) -> Mean {
-    let Some(Link::Surface { film, is_warm, .. }) = cells.link(axis, cell) else {
+    let Some((rs, is_warm)) = cells.surface(axis, cell) else {
         return mean;
     };
     let (second, third) = match axis {
@@ -138,7 +138,7 @@ fn with_surface(cells: Cells, axis: AxisName, node: Place, cell: Place, mean: Me
         cells, third, node, cell,
     ));
     let weight = along.saturating_mul(across).saturating_mul(5_000 * PARTS);
-    let weight = weight.checked_div(film.under).unwrap_or(0);
+    let weight = weight.checked_div(u128::from(rs)).unwrap_or(0);
     mean.with(weight, if is_warm { 1 << 50 } else { 0 })
 }
 

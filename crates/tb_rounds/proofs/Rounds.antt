@@ -1,6 +1,8 @@
 -- What a round's last offer makes of it.
-use Rattle.std.proofs.Common.{◌≡◌, refl, sym, ap, subst, List, ℤ, ◌<ℤ◌, arith}
+use Rattle.std.proofs.Common.{◌≡◌, refl, sym, ap, subst, ◌^◌, List, ℤ, pos, ◌≤ℤ◌, ◌<ℤ◌, arith}
 use Rattle.std.proofs.lemmas.Int.{ints}
+use Rattle.tb_model.specs.Energy.{IsBalanced, flux_terms, rounded_up}
+use Rattle.tb_flux.specs.Fluxes.{flux_on}
 use Rattle.tb_moves.specs.Sessions.{IsHigher, IsLower, Session, lower_of, upper_of, inside_of, mesh_of, with_field, with_flux}
 use Rattle.tb_moves.specs.Moves.{IsRelaxedField}
 use Rattle.tb_moves.specs.FluxPasses.{IsRelaxedFlux}
@@ -45,7 +47,7 @@ kept_field s h = record {
 }
 
 pub field_kept : (s t : Session) (field : List ℤ) → t ≡ s → IsRelaxedField (mesh_of s) (inside_of s) s.field field → ¬ (IsLower s field) → IsFieldRound s NoGain t
-field_kept s t field e relaxed refused = subst (IsFieldRound s NoGain) (sym e) (kept_field s (record { field = field; relaxed = relaxed; no_gain = refused }))
+field_kept s t field e relaxed worse = subst (IsFieldRound s NoGain) (sym e) (kept_field s (record { field = field; relaxed = relaxed; no_gain = worse }))
 
 taken_flux : (s : Session) (flux : List ℤ) → IsHigher s flux → IsFluxRound s Lowered (with_flux s flux)
 taken_flux s flux h = record {
@@ -68,5 +70,12 @@ kept_flux s h = record {
   relaxed = λ _. h;
 }
 
-pub flux_kept : (s t : Session) (flux : List ℤ) → t ≡ s → IsRelaxedFlux (mesh_of s) (inside_of s) s.flux flux → ¬ (IsHigher s flux) → IsFluxRound s NoGain t
-flux_kept s t flux e relaxed refused = subst (IsFluxRound s NoGain) (sym e) (kept_flux s (record { flux = flux; relaxed = relaxed; no_gain = refused }))
+-- a balanced flux whose loss is within the limit, where its lower end is at least 0, and that isn't higher
+refused : (s : Session) (flux : List ℤ) → IsBalanced (mesh_of s) (flux_on s.grid flux) → (pos 0 ≤ℤ lower_of s flux → rounded_up (mesh_of s) (flux_terms (mesh_of s) (flux_on s.grid flux)) ≤ℤ pos (2 ^ 120)) →
+    ¬ (IsHigher s flux) → pos 0 ≤ℤ lower_of s flux → ¬ (lower_of s s.flux <ℤ lower_of s flux)
+refused s flux balanced loss worse least higher = worse (record { balanced = balanced; within = loss least; least = least; higher = higher })
+
+pub flux_kept : (s t : Session) (flux : List ℤ) → t ≡ s → IsRelaxedFlux (mesh_of s) (inside_of s) s.flux flux → IsBalanced (mesh_of s) (flux_on s.grid flux) →
+    (pos 0 ≤ℤ lower_of s flux → rounded_up (mesh_of s) (flux_terms (mesh_of s) (flux_on s.grid flux)) ≤ℤ pos (2 ^ 120)) → ¬ (IsHigher s flux) → IsFluxRound s NoGain t
+flux_kept s t flux e relaxed balanced loss worse =
+    subst (IsFluxRound s NoGain) (sym e) (kept_flux s (record { flux = flux; relaxed = relaxed; no_gain = refused s flux balanced loss worse }))

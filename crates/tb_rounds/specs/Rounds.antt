@@ -1,10 +1,10 @@
 -- What a round of the solver does to a session.
-use Rattle.std.specs.Prelude.{◌≡◌, ◌↔◌, List, ℤ, ◌<ℤ◌}
+use Rattle.std.specs.Prelude.{pos, ◌≤ℤ◌, ◌≡◌, ◌↔◌, List, ℤ, ◌<ℤ◌}
 use Rattle.tb_grid.specs.Grid.{counts_of}
 use Rattle.tb_field.specs.Fields.{FitsNodes}
 use Rattle.tb_flux.specs.Fluxes.{FitsFaces}
 use Rattle.tb_trees.specs.Bodies.{BodyOnGrid}
-use Rattle.tb_moves.specs.Sessions.{AreAlike, IsHigher, Session, inside_of, lower_of, mesh_of, upper_of}
+use Rattle.tb_moves.specs.Sessions.{AreAlike, Session, inside_of, lower_of, mesh_of, upper_of}
 use Rattle.tb_moves.specs.Moves.{IsRelaxedField}
 use Rattle.tb_moves.specs.FluxPasses.{IsRelaxedFlux}
 use Rattle.tb_rounds.specs.declared.work.Step.{Step}
@@ -24,11 +24,11 @@ pub record RelaxingKeepsUpper (s : Session) : Type 0 where
   pub relaxed : IsRelaxedField (mesh_of s) (inside_of s) s.field field
   pub no_gain : ¬ (upper_of s field <ℤ upper_of s s.field)
 
--- the present flux after the loops' and cycles' part of a plain pass, which isn't taken in place of the present one
+-- the present flux after the loops' and cycles' part of a plain pass, whose lower end is below 0 or not above
 pub record RelaxingKeepsLower (s : Session) : Type 0 where
   pub flux : List ℤ
   pub relaxed : IsRelaxedFlux (mesh_of s) (inside_of s) s.flux flux
-  pub no_gain : ¬ (IsHigher s flux)
+  pub no_gain : pos 0 ≤ℤ lower_of s flux → ¬ (lower_of s s.flux <ℤ lower_of s flux)
 
 -- A round on the field: `Lowered` exactly where the upper end fell, and `NoGain` exactly where nothing changed, which
 -- comes only where the moves of a plain pass don't lower it either. The flux stays, and so do body, grid and case.

@@ -1,10 +1,10 @@
 // Rounds on the flux.
-ghost use Rattle.std.specs.Prelude.{◌≡◌, length};
+ghost use Rattle.std.specs.Prelude.{◌≡◌, ◌^◌, ◌≤ℤ◌, length, pos};
 ghost use Rattle.tb_grid.specs.Grid.{counts_of};
-ghost use Rattle.tb_model.specs.Energy.{IsBalanced};
+ghost use Rattle.tb_model.specs.Energy.{IsBalanced, flux_terms, rounded_up};
 ghost use Rattle.tb_flux.specs.Fluxes.{AreFlows, FitsFaces, flux_on};
 ghost use Rattle.tb_moves.specs.FluxPasses.{IsRelaxedFlux};
-ghost use Rattle.tb_moves.specs.Sessions.{inside_of, mesh_of};
+ghost use Rattle.tb_moves.specs.Sessions.{inside_of, lower_of, mesh_of};
 ghost use Rattle.tb_rounds.specs.Rounds.{IsFluxRound, site_of};
 ghost use Rattle.tb_rounds.specs.Offers.{IsFluxOffer};
 
@@ -106,8 +106,11 @@ fn relax(session: &Session, flux: &mut Flux)
     ensures fits { FitsFaces (counts_of session.now.grid) flux.new }
     ensures limits { AreFlows flux.new }
     ensures balanced { IsBalanced (mesh_of session.now) (flux_on session.now.grid flux.new) }
+    ensures loss { pos 0 ≤ℤ lower_of session.now flux.new
+        → rounded_up (mesh_of session.now) (flux_terms (mesh_of session.now) (flux_on session.now.grid flux.new)) ≤ℤ pos (2 ^ 120) }
 {
     session.keeps();
+    let _counts = session.grid().counts();
     copy(session.flux(), flux);
     session.relax_flux(flux);
 }

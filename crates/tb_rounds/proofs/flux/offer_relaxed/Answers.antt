@@ -8,4 +8,4 @@ returns-then-offer_flux-clause-round c =
 
 pub returns-clause-round : goal.returns-clause-round
 returns-clause-round c =
-    flux_kept c.args.session.now c.offer_flux.new.self c.relax.new.flux (search rules) c.relax.ensures.relaxed (search rules)
+    flux_kept c.args.session.now c.offer_flux.new.self c.relax.new.flux (search rules) c.relax.ensures.relaxed c.relax.ensures.balanced c.relax.ensures.loss (search rules)
