@@ -9,5 +9,7 @@ pub mod Nothing
 pub mod Beginning
 pub mod Steps
 pub mod Multiples
-pub mod Entries
 pub mod Turning
+pub mod Entries
+pub mod Keeping
+pub mod OneMove

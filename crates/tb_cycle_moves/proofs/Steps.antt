@@ -1,5 +1,5 @@
 -- The walk along a cycle as a program takes it, on whatever mesh has the outlets.
-use Rattle.std.proofs.Common.{◌≡◌, subst, arith, mul-le-mul_right, ℕ, ◌+◌, ◌*◌, ◌^◌, ◌<◌, ◌≤◌, List}
+use Rattle.std.proofs.Common.{◌≡◌, subst, ℕ, List}
 use lib.IntN.{ℤ}
 use Rattle.tb_places.specs.Inverse.{cell_place}
 use Rattle.tb_places.specs.Places.{Counts}
@@ -44,10 +44,3 @@ module _ (t : Table) (marks : List Mark) (sides : List Side) (old : List ℤ) (l
   end_on d o r next passed last is m same leads f cycle entry is_cycle =
       end_under_way m marks sides leads t same old cycle limits d o r next (is m same leads f cycle entry is_cycle)
       (subst (λ (n : Counts). IsPassed n t old (cell_place n d) o (side_at sides d) r next) same passed) (subst (λ (n : Counts). IsLast n marks sides d) same last)
-
--- one of so many faces, each at most p in size, is left at least: those before are at most 2¹⁸ · p together
-pub before_last : (t d s n p : ℕ) → t + d * p ≤ (s + 1) * p → 0 < d → s ≤ n → n ≤ 2 ^ 18 → t ≤ 2 ^ 18 * p
-before_last t d s n p kept more near few =
-    let all : s * p ≤ 2 ^ 18 * p = mul-le-mul_right p (omega arith) in
-    let one : 1 * p ≤ d * p = mul-le-mul_right p (omega arith) in
-    omega arith

@@ -57,8 +57,8 @@ pub fn relax_cycles(tree: &OutletTree, table: &Table<'_>, flows: &mut [i64]) -> 
     ensures kept { IsFlux (table_counts table.now) flows.new }
 {
     let mut changed = false;
-    for face in 0..tree.faces() {
-        if relax_face(tree, table, flows, FaceId(face)) {
+    for number in 0..tree.faces() {
+        if relax_face(tree, table, flows, FaceId(number)) {
             changed = true;
         }
     }

@@ -6,6 +6,7 @@
 #![tactic(auto)]
 
 mod faces;
+pub mod laws;
 mod moves;
 mod reach;
 mod walk;

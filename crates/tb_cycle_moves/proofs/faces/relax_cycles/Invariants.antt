@@ -10,9 +10,9 @@ use Rattle.tb_trees.specs.Bodies.{mesh_of}
 use Rattle.tb_cycle_moves.specs.Turns.{IsCycleTurn}
 use Rattle.tb_cycle_moves.proofs.faces.relax_cycles.Given as goal
 
-abbrev pub invariant-loop-face : goal.invariant-loop-face
-invariant-loop-face l = record {
+abbrev pub invariant-loop-number : goal.invariant-loop-number
+invariant-loop-number l = record {
   so_far : (inside : Case) → IsTableOf (mesh_of l.tree) inside l.table →
-      AreMade (List ℤ) ℕ (IsCycleTurn (mesh_of l.tree) inside) (map (λ (f : ℕ). f) (counting 0 l.face)) l.fn.flows l.flows l.changed;
+      AreMade (List ℤ) ℕ (IsCycleTurn (mesh_of l.tree) inside) (map (λ (f : ℕ). f) (counting 0 l.number)) l.fn.flows l.flows l.changed;
   kept : IsFlux (table_counts l.table) l.flows;
 }
