@@ -1,5 +1,7 @@
 -- With which status the answers of each command end a run.
-use Rattle.std.proofs.Common.{◌≡◌, ◌⊎◌, List, ℕ, inl, inr, refl, sym, subst}
+use Rattle.std.proofs.Common.{◌≡◌, ◌⊎◌, Bool, true, false, List, ℕ, inl, inr, refl, sym, subst}
+use Rattle.std.specs.Prelude.{if◌then◌else◌}
+use Rattle.tb_solving.specs.Solved.{are_done}
 use Rattle.tb_options.specs.declared.SolveOptions.{SolveOptions}
 use Rattle.thermal_cli.specs.declared.answer.Answer.{Answer}
 use Rattle.thermal_cli.specs.declared.check.CheckAnswer.{CheckAnswer}
@@ -7,6 +9,7 @@ use Rattle.thermal_cli.specs.declared.check.CheckAnswer.TheVariants as check
 use Rattle.thermal_cli.specs.declared.report.ReportAnswer.{ReportAnswer}
 use Rattle.thermal_cli.specs.declared.report.ReportAnswer.TheVariants as report
 use Rattle.thermal_cli.specs.declared.solve.SolveAnswer.{SolveAnswer}
+use Rattle.thermal_cli.specs.declared.solve.SolveAnswer.TheVariants as solve
 use Rattle.thermal_cli.specs.declared.uvalue.UValueAnswer.{UValueAnswer}
 use Rattle.thermal_cli.specs.declared.uvalue.UValueAnswer.TheVariants as uvalue
 use Rattle.thermal_cli.specs.declared.status.Status.{Status}
@@ -19,9 +22,13 @@ use Rattle.thermal_cli.specs.Report.{report_status}
 use Rattle.thermal_cli.specs.Solve.{solve_status}
 use Rattle.thermal_cli.specs.UValue.{uvalue_status}
 
--- none tells a fault of the run itself, and only `check` and `report` refuse a certificate
+-- `solve` with some options
+abbrev pub IsSolve : Command → Type 0
+IsSolve c = (o : SolveOptions) × (c ≡ Solve o)
+
+-- none tells a fault of the run itself, only `check` and `report` refuse a certificate, and only `solve` misses a width
 abbrev pub IsEndingOf : Command → Status → Type 0
-IsEndingOf c s = (s ≡ status.Fine) ⊎ ((s ≡ status.Refused) ⊎ ((s ≡ status.WidthNotReached) ⊎ ((s ≡ status.CertificateRefused) × ((c ≡ Check) ⊎ (c ≡ Report)))))
+IsEndingOf c s = (s ≡ status.Fine) ⊎ ((s ≡ status.Refused) ⊎ (((s ≡ status.WidthNotReached) × IsSolve c) ⊎ ((s ≡ status.CertificateRefused) × ((c ≡ Check) ⊎ (c ≡ Report)))))
 
 check_ends : (a : CheckAnswer) → IsEndingOf Check (check_status a)
 check_ends (check.Fault f) = inr (inr (inr (refl, inl refl)))
@@ -32,8 +39,15 @@ report_ends (report.Fault f) = inr (inr (inr (refl, inr refl)))
 report_ends (report.FaultOfPart f) = inr (inl refl)
 report_ends (report.Report b) = inl refl
 
+done_or_not : (o : SolveOptions) (done : Bool) → IsEndingOf (Solve o) (if done then status.Fine else status.WidthNotReached)
+done_or_not o true = inl refl
+done_or_not o false = inr (inr (inl (refl, (o, refl))))
+
 solve_ends : (o : SolveOptions) (a : SolveAnswer) → IsEndingOf (Solve o) (solve_status a)
-solve_ends o a = inr (inl refl)
+solve_ends o (solve.FaultOfDetail f) = inr (inl refl)
+solve_ends o (solve.FaultOfBody f) = inr (inl refl)
+solve_ends o (solve.GridTooLarge why) = inr (inl refl)
+solve_ends o (solve.Solved b) = done_or_not o (are_done b.cases)
 
 uvalue_ends : (a : UValueAnswer) → IsEndingOf UValue (uvalue_status a)
 uvalue_ends (uvalue.FaultOfDetail f) = inr (inl refl)

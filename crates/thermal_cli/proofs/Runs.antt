@@ -13,17 +13,20 @@ use Rattle.thermal_cli.specs.declared.status.Status.{Status}
 use Rattle.thermal_cli.specs.declared.status.Status.TheVariants as status
 use Rattle.thermal_cli.specs.declared.told.Told.TheVariants as told
 use Rattle.thermal_cli.specs.declared.words.Command.{Command}
-use Rattle.thermal_cli.specs.declared.words.Command.TheVariants.{Check, Report}
+use Rattle.thermal_cli.specs.declared.words.Command.TheVariants.{Check, Report, Solve}
 use Rattle.thermal_cli.specs.Answers.{Answers, answer_message}
 use Rattle.thermal_cli.specs.Check.{Accepts, CheckAnswers, check_status, check_text}
-use Rattle.thermal_cli.specs.Outcome.{IsAnswered, IsInterrupted, IsRead, Runs, TellsAccepted, TellsOf, TellsReport, WritesFrontOfOne}
+use Rattle.thermal_cli.specs.Outcome.{IsAnswered, IsInterrupted, IsRead, NamesSolve, Runs, TellsAccepted, TellsOf, TellsReport, TellsSolved, WritesFrontOfOne}
 use Rattle.thermal_cli.specs.Report.{ReportAnswers, report_status, report_text}
+use Rattle.thermal_cli.specs.Solve.{solve_status, solve_text}
+use Rattle.tb_options.specs.declared.SolveOptions.{SolveOptions}
 use Rattle.thermal_cli.specs.Words.{HasReading, Names}
 use Rattle.tb_report.specs.Sound.{HasSoundFigures}
 use Rattle.tb_report.specs.Texts as figures
 use Rattle.tb_report.proofs.Figures.{figures_sound}
-use Rattle.thermal_cli.proofs.Endings.{IsEndingOf, answers_end}
+use Rattle.thermal_cli.proofs.Endings.{IsEndingOf, IsSolve, answers_end}
 use Rattle.thermal_cli.proofs.Commands.{one_command}
+use Rattle.thermal_cli.proofs.Solving.{solved_bundle}
 
 -- ---- which status belongs to what is told
 
@@ -38,8 +41,15 @@ is_of_answers s = false
 ends_so : (c : Command) (s : Status) → IsEndingOf c s → is_of_answers s ≡ true
 ends_so c s (inl e) = ap is_of_answers e
 ends_so c s (inr (inl e)) = ap is_of_answers e
-ends_so c s (inr (inr (inl e))) = ap is_of_answers e
+ends_so c s (inr (inr (inl e))) = ap is_of_answers e.0
 ends_so c s (inr (inr (inr e))) = ap is_of_answers e.0
+
+-- and no other text
+abbrev is_of_answers_alone : Status → Bool
+is_of_answers_alone status.Fine = true
+is_of_answers_alone status.WidthNotReached = true
+is_of_answers_alone status.CertificateRefused = true
+is_of_answers_alone s = false
 
 -- no answer has one of the other statuses
 not_answered : (c : Command) (bytes : List ℕ) (x : Answer) (s other : Status) → Answers c bytes x → s ≡ (answer_message x).status → s ≡ other → is_of_answers other ≡ false → ⊥
@@ -52,8 +62,15 @@ not_answered c bytes x s other h e p f =
 by_check : (c : Command) (s : Status) → IsEndingOf c s → s ≡ status.CertificateRefused → (c ≡ Check) ⊎ (c ≡ Report)
 by_check c s (inl a) e = cc (a, e)
 by_check c s (inr (inl a)) e = cc (a, e)
-by_check c s (inr (inr (inl a))) e = cc (a, e)
+by_check c s (inr (inr (inl a))) e = let f = a.0 in cc (f, e)
 by_check c s (inr (inr (inr a))) e = a.1
+
+-- only `solve` misses a width
+by_solve : (c : Command) (s : Status) → IsEndingOf c s → s ≡ status.WidthNotReached → IsSolve c
+by_solve c s (inl a) e = cc (a, e)
+by_solve c s (inr (inl a)) e = cc (a, e)
+by_solve c s (inr (inr (inl a))) e = a.1
+by_solve c s (inr (inr (inr a))) e = let f = a.0 in cc (f, e)
 
 not_fine : status.Fine ≡ status.CertificateRefused → ⊥
 not_fine e = cc e
@@ -155,24 +172,16 @@ module _ {S K : Type 0} (left : S → Option (List ℕ)) (source_faults : S → 
   refused s p (x, o, inr t) = let e = t.0 in cc (e, p)
 
   -- a status that only answers have: the input was read to its end
-  abbrev IsOfAnswers : Status → Type 0
-  IsOfAnswers s = (s ≡ status.Fine) ⊎ (s ≡ status.CertificateRefused)
-
-  told_answer : (s : Status) → IsOfAnswers s → Ran s → IsAnswered words (left a) (left b) (holds k) (holds l) s
-  told_answer s (inl p) (told.Usage, o, inl t) = let e = t.0 in cc (e, p)
-  told_answer s (inr p) (told.Usage, o, inl t) = let e = t.0 in cc (e, p)
-  told_answer s (inl p) (told.NoMemory, o, inl t) = let e = t.0 in cc (e, p)
-  told_answer s (inr p) (told.NoMemory, o, inl t) = let e = t.0 in cc (e, p)
-  told_answer s (inl p) (told.SourceFault, o, inl t) = let e = t.0 in cc (e, p)
-  told_answer s (inr p) (told.SourceFault, o, inl t) = let e = t.0 in cc (e, p)
-  told_answer s (inl p) (told.TooLong, o, inl t) = let e = t.0 in cc (e, p)
-  told_answer s (inr p) (told.TooLong, o, inl t) = let e = t.0 in cc (e, p)
+  told_answer : (s : Status) → is_of_answers_alone s ≡ true → Ran s → IsAnswered words (left a) (left b) (holds k) (holds l) s
+  told_answer s p (told.Usage, o, inl t) = let e : is_of_answers_alone s ≡ false = ap is_of_answers_alone t.0 in cc (e, p)
+  told_answer s p (told.NoMemory, o, inl t) = let e : is_of_answers_alone s ≡ false = ap is_of_answers_alone t.0 in cc (e, p)
+  told_answer s p (told.SourceFault, o, inl t) = let e : is_of_answers_alone s ≡ false = ap is_of_answers_alone t.0 in cc (e, p)
+  told_answer s p (told.TooLong, o, inl t) = let e : is_of_answers_alone s ≡ false = ap is_of_answers_alone t.0 in cc (e, p)
   told_answer s p (told.Answered x, o, inl t) = (o.0, o.1, o.2, o.3, (x, o.4, t.0, t.1))
-  told_answer s (inl p) (x, o, inr t) = let e = t.0 in cc (e, p)
-  told_answer s (inr p) (x, o, inr t) = let e = t.0 in cc (e, p)
+  told_answer s p (x, o, inr t) = let e : is_of_answers_alone s ≡ false = ap is_of_answers_alone t.0 in cc (e, p)
 
   pub fine : (s : Status) → s ≡ status.Fine → Ran s → IsAnswered words (left a) (left b) (holds k) (holds l) status.Fine
-  fine s p r = subst (IsAnswered words (left a) (left b) (holds k) (holds l)) p (told_answer s (inl p) r)
+  fine s p r = subst (IsAnswered words (left a) (left b) (holds k) (holds l)) p (told_answer s (ap is_of_answers_alone p) r)
 
   one_of_both : (c : Command) → (c ≡ Check) ⊎ (c ≡ Report) → Names words c → Names words Check ⊎ Names words Report
   one_of_both c (inl e) h = inl (subst (Names words) e h)
@@ -180,7 +189,7 @@ module _ {S K : Type 0} (left : S → Option (List ℕ)) (source_faults : S → 
 
   pub certificate_refused : (s : Status) → s ≡ status.CertificateRefused → Ran s → (Names words Check ⊎ Names words Report) × IsAnswered words (left a) (left b) (holds k) (holds l) status.CertificateRefused
   certificate_refused s p r =
-      let h = subst (IsAnswered words (left a) (left b) (holds k) (holds l)) p (told_answer s (inr p) r) in
+      let h = subst (IsAnswered words (left a) (left b) (holds k) (holds l)) p (told_answer s (ap is_of_answers_alone p) r) in
       (one_of_both h.0 (by_check h.0 _ (answers_end h.0 h.2 h.4.0 h.4.1) (sym h.4.2)) h.1, h)
 
   -- of a bundle that was accepted, what `check` accepts was written
@@ -204,6 +213,29 @@ module _ {S K : Type 0} (left : S → Option (List ℕ)) (source_faults : S → 
       let t : Adds (holds k) (holds l) (report_text x.0) = subst (λ (y : Answer). Adds (holds k) (holds l) (answer_message y).text) x.1 h.4.3 in
       let i = shown h.2 x.0 (holds k) (holds l) x.2 e t in
       (h.2, h.3, i.0, i.1, i.2, i.3)
+
+  -- a width is missed by `solve` alone
+  pub width_not_reached : (s : Status) → s ≡ status.WidthNotReached → Ran s → NamesSolve words × IsAnswered words (left a) (left b) (holds k) (holds l) status.WidthNotReached
+  width_not_reached s p r =
+      let h = subst (IsAnswered words (left a) (left b) (holds k) (holds l)) p (told_answer s (ap is_of_answers_alone p) r) in
+      let o : IsSolve h.0 = by_solve h.0 _ (answers_end h.0 h.2 h.4.0 h.4.1) (sym h.4.2) in
+      ((o.0, subst (Names words) o.1 h.1), h)
+
+  either : (s : Status) → (s ≡ status.Fine) ⊎ (s ≡ status.WidthNotReached) → is_of_answers_alone s ≡ true
+  either s (inl e) = ap is_of_answers_alone e
+  either s (inr e) = ap is_of_answers_alone e
+
+  -- of a detail that was solved, its bundle was written
+  pub solved : (s : Status) → (s ≡ status.Fine) ⊎ (s ≡ status.WidthNotReached) → (o : SolveOptions) → Names words (Solve o) → Ran s
+      → TellsSolved o (left a) (left b) (holds k) (holds l) s
+  solved s p o w r =
+      let h = told_answer s (either s p) r in
+      let c : h.0 ≡ Solve o = one_command words h.0 (Solve o) h.1 w in
+      let x : Answers (Solve o) h.2 h.4.0 = subst (λ (d : Command). Answers d h.2 h.4.0) c h.4.1 in
+      let e : s ≡ solve_status x.0 = h.4.2 ∙ ap (λ (y : Answer). (answer_message y).status) x.1 in
+      let t : Adds (holds k) (holds l) (solve_text x.0) = subst (λ (y : Answer). Adds (holds k) (holds l) (answer_message y).text) x.1 h.4.3 in
+      let i = solved_bundle o h.2 x.0 s (holds k) (holds l) is_of_answers_alone (either s p) refl x.2 e t in
+      (h.2, h.3, i.0, i.1, i.2, i.3, i.4, i.5, i.6)
 
 -- ---- what becomes of an input
 

@@ -5,6 +5,7 @@ pub mod Messages
 pub mod Check
 pub mod Report
 pub mod Solve
+pub mod Solving
 pub mod UValue
 pub mod Answers
 pub mod Outcome

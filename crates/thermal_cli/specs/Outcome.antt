@@ -1,21 +1,27 @@
 -- What a run tells: which text and which status belong to its words and to the bytes of its source.
-use Rattle.std.specs.Prelude.{◌≡◌, ◌≤◌, ◌+◌, ◌⊎◌, ℕ, List, Option, length, codes}
+use Rattle.std.specs.Prelude.{◌≡◌, ◌≤◌, ◌+◌, ◌⊎◌, ℕ, List, Option, Ok, length, codes}
 use Rattle.tb_outside.specs.Faults.{Rose, Stands}
 use Rattle.tb_outside.specs.Limits.{most_input_bytes}
 use Rattle.tb_outside.specs.Outside.{Adds, IsAtEnd, Takes, TakesAtMost, TakesExactly, WritesFront}
 use Rattle.thermal_cli.specs.declared.answer.Answer.{Answer}
 use Rattle.tb_bundle.specs.declared.bundle.Bundle.{Bundle}
+use Rattle.tb_bundle_text.specs.Canonical.{bundle_text}
+use Rattle.tb_detail.specs.declared.Detail.{Detail}
+use Rattle.tb_options.specs.declared.SolveOptions.{SolveOptions}
 use Rattle.thermal_cli.specs.declared.check.CheckAnswer.TheVariants.{Accepted}
 use Rattle.thermal_cli.specs.declared.status.Status.{Status}
 use Rattle.thermal_cli.specs.declared.status.Status.TheVariants as status
 use Rattle.thermal_cli.specs.declared.told.Told.{Told}
 use Rattle.thermal_cli.specs.declared.told.Told.TheVariants.{Usage, NoMemory, SourceFault, TooLong, Answered}
 use Rattle.thermal_cli.specs.declared.words.Command.{Command}
+use Rattle.thermal_cli.specs.declared.words.Command.TheVariants.{Solve}
 use Rattle.thermal_cli.specs.Answers.{Answers, answer_message}
 use Rattle.tb_report.specs.Sound.{HasSoundFigures}
 use Rattle.tb_report.specs.Texts as report
 use Rattle.thermal_cli.specs.Check.{Accepts, CheckAnswers, check_text}
+use Rattle.thermal_cli.specs.Details.{detail_spelt}
 use Rattle.thermal_cli.specs.Messages.{Message, Tells}
+use Rattle.thermal_cli.specs.Solve.{IsAcceptedAs, IsSolvedTo, solved_status}
 use Rattle.thermal_cli.specs.Words.{HasReading, Names}
 
 -- ---- what is told
@@ -81,3 +87,14 @@ TellsAccepted left_old left_new holds_old holds_new =
 abbrev pub TellsReport : (left_old left_new holds_old holds_new : Option (List ℕ)) → Type 0
 TellsReport left_old left_new holds_old holds_new =
     (bytes : List ℕ) × IsRead left_old left_new bytes × (b : Bundle) × Accepts bytes b × HasSoundFigures b × Adds holds_old holds_new (report.report_text b)
+
+-- the source was read to its end, its bytes spell a detail, and the bundle that it is solved to was written, with the status
+-- that its verdicts give. The text that was written has no fault: `check` accepts it as this bundle
+abbrev pub TellsSolved : SolveOptions → (left_old left_new holds_old holds_new : Option (List ℕ)) → Status → Type 0
+TellsSolved o left_old left_new holds_old holds_new s =
+    (bytes : List ℕ) × IsRead left_old left_new bytes × (d : Detail) × (detail_spelt bytes ≡ Ok d) × (b : Bundle) × IsSolvedTo o d b
+    × IsAcceptedAs (bundle_text b) b × (s ≡ solved_status b) × Adds holds_old holds_new (bundle_text b)
+
+-- the words are `solve` with options
+abbrev pub NamesSolve : List (List ℕ) → Type 0
+NamesSolve words = (o : SolveOptions) × Names words (Solve o)

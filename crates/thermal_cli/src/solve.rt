@@ -1,24 +1,28 @@
-// `solve`: the heat flows of a body.
-ghost use Rattle.std.specs.Prelude.{◌≡◌, ◌≤◌, IfOk, length};
+// `solve`: the bundle that a detail is solved to.
+ghost use Rattle.std.specs.Prelude.{◌≡◌, ◌^◌, ◌≤◌, IfOk, MatchResult, length};
+ghost use Rattle.tb_detail.specs.Limits.{InLimits};
 ghost use Rattle.tb_geometry.specs.Faults.{IsAccepted};
-ghost use Rattle.tb_grid.specs.Grid.{IsGrid};
 ghost use Rattle.tb_options.specs.Options.{AreWithin};
 ghost use Rattle.tb_outside.specs.Buffers.{Gathers};
 ghost use Rattle.tb_outside.specs.Limits.{most_input_bytes};
-ghost use Rattle.thermal_cli.specs.Solve.{AnswersToBody, SolveAnswers, grading_of, letter, solve_status, solve_text, too_large_text};
+ghost use Rattle.thermal_cli.specs.Solve.{IsSolvedTo, SolveAnswers, grading_of, letter, solve_status, solve_text, solved_status, target_of, too_large_text};
+ghost use Rattle.thermal_cli.specs.Solving.{AnswersAs, RefusesDetail};
 
 use crate::Status;
 use itoa::Buffer;
 use std::alloc::Global;
+use tb_bundle::CaseProof;
+use tb_detail::Detail;
 use tb_geometry::{Body, BodyFault, BodyRefusal};
-use tb_grid::{AxisName, Grading, Grid, GridTooLarge, LevelFault};
+use tb_grid::{AxisName, Grading, GridTooLarge, LevelFault};
 use tb_options::SolveOptions;
 use tb_outside::{OutputBuffer, Sink, Text};
 use tb_records::NoMemory;
+use tb_solving::{SolvedBundle, Target, solve_cases};
 use tb_text::{DetailFault, DetailRefusal, read_detail};
 
 /// What `solve` answers to a detail.
-#[derive(Clone, Copy, Debug, PartialEq, Eq)]
+#[derive(Debug, Drop)]
 pub enum SolveAnswer {
     /// The detail has this first fault.
     FaultOfDetail(DetailFault),
@@ -26,8 +30,16 @@ pub enum SolveAnswer {
     FaultOfBody(BodyFault),
     /// The level grid of the body, by the options, is too large.
     GridTooLarge(GridTooLarge),
-    /// The body has no fault and a level grid, and can't be solved yet.
-    NotBuilt,
+    /// The detail was solved to this bundle.
+    Solved(SolvedBundle),
+}
+
+// Why a detail within limits isn't solved.
+#[derive(Clone, Copy, Debug)]
+enum Unsolved {
+    FaultOfBody(BodyFault),
+    GridTooLarge(GridTooLarge),
+    NoMemory,
 }
 
 /// What `solve` answers with these options to the bytes of a detail, of which there are at most 268,435,456.
@@ -41,10 +53,70 @@ pub fn solve(alloc: Global, options: SolveOptions, bytes: &[u8]) -> Result<Solve
         Err(DetailRefusal::Fault(fault)) => return Ok(SolveAnswer::FaultOfDetail(fault)),
         Err(DetailRefusal::NoMemory) => return Err(NoMemory),
     };
-    match Body::new(alloc, &detail) {
-        Ok(body) => answer_to_body(alloc, grading(options, detail.dimension), &body),
-        Err(BodyRefusal::Fault(fault)) => Ok(SolveAnswer::FaultOfBody(fault)),
-        Err(BodyRefusal::NoMemory) => Err(NoMemory),
+    match solve_detail(alloc, options, &detail) {
+        Ok(cases) => Ok(SolveAnswer::Solved(SolvedBundle::new(detail, cases))),
+        Err(why) => {
+            drop(detail);
+            answer_of(why)
+        }
+    }
+}
+
+// What is answered where a detail isn't solved.
+fn answer_of(why: Unsolved) -> Result<SolveAnswer, NoMemory>
+    ensures { AnswersAs why result }
+{
+    match why {
+        Unsolved::FaultOfBody(fault) => Ok(SolveAnswer::FaultOfBody(fault)),
+        Unsolved::GridTooLarge(why) => Ok(SolveAnswer::GridTooLarge(why)),
+        Unsolved::NoMemory => Err(NoMemory),
+    }
+}
+
+// The solved cases of a detail.
+fn solve_detail(
+    alloc: Global,
+    options: SolveOptions,
+    detail: &Detail,
+) -> Result<Vec<CaseProof>, Unsolved>
+    requires limits { InLimits detail.now }
+    requires ranges { AreWithin options }
+    ensures { MatchResult result
+        (λ cases. IsSolvedTo options detail.now (record { detail = detail.now; cases = cases.items }))
+        (RefusesDetail options detail.now) }
+{
+    let body = match Body::new(alloc, detail) {
+        Ok(body) => body,
+        Err(BodyRefusal::Fault(fault)) => return Err(Unsolved::FaultOfBody(fault)),
+        Err(BodyRefusal::NoMemory) => return Err(Unsolved::NoMemory),
+    };
+    let cases = solve_body(alloc, options, detail.dimension, &body);
+    drop(body);
+    cases
+}
+
+// The solved cases of a body.
+fn solve_body(
+    alloc: Global,
+    options: SolveOptions,
+    dimension: u8,
+    body: &Body,
+) -> Result<Vec<CaseProof>, Unsolved>
+    requires dimension { dimension ≡ body.now.dimension }
+    requires ranges { AreWithin options }
+    requires accepted { IsAccepted body.now }
+    ensures { MatchResult result
+        (λ cases. IsSolvedTo options body.now (record { detail = body.now; cases = cases.items }))
+        (RefusesDetail options body.now) }
+{
+    let level = match body.level_grid(alloc, grading(options, dimension)) {
+        Ok(level) => level,
+        Err(LevelFault::TooLarge(why)) => return Err(Unsolved::GridTooLarge(why)),
+        Err(LevelFault::NoMemory) => return Err(Unsolved::NoMemory),
+    };
+    match solve_cases(alloc, body, &level, target(options)) {
+        Ok(cases) => Ok(cases),
+        Err(_) => Err(Unsolved::NoMemory),
     }
 }
 
@@ -61,27 +133,16 @@ fn grading(options: SolveOptions, dimension: u8) -> Grading
     }
 }
 
-// What is answered to a body.
-fn answer_to_body(alloc: Global, grading: Grading, body: &Body) -> Result<SolveAnswer, NoMemory>
-    requires halve { grading.halve ≤ 6 }
-    requires dimension { grading.dimension ≡ body.now.dimension }
-    requires accepted { IsAccepted body.now }
-    ensures { IfOk result (AnswersToBody grading body.now) }
+// What these options ask of a search.
+fn target(options: SolveOptions) -> Target
+    requires { AreWithin options }
+    ensures target { result ≡ target_of options }
+    ensures width { result.width ≤ 10 ^ 9 }
 {
-    match body.level_grid(alloc, grading) {
-        Ok(level) => Ok(answer_to_grid(&level)),
-        Err(LevelFault::TooLarge(why)) => Ok(SolveAnswer::GridTooLarge(why)),
-        Err(LevelFault::NoMemory) => Err(NoMemory),
+    Target {
+        width: options.width(),
+        sweeps: options.sweeps(),
     }
-}
-
-// What is answered to a level grid: its cells aren't solved yet.
-fn answer_to_grid(level: &Grid) -> SolveAnswer
-    ensures answer { result ≡ SolveAnswer.NotBuilt }
-    ensures grid { IsGrid level.now }
-{
-    let _cells = level.cells();
-    SolveAnswer::NotBuilt
 }
 
 // ---- its text and its status
@@ -138,7 +199,7 @@ impl Text for SolveAnswer {
             SolveAnswer::FaultOfDetail(fault) => fault.put(buffer, sink),
             SolveAnswer::FaultOfBody(fault) => fault.put(buffer, sink),
             SolveAnswer::GridTooLarge(why) => put_too_large(buffer, sink, *why),
-            SolveAnswer::NotBuilt => buffer.put(sink, b"refused,NotBuilt\n"),
+            SolveAnswer::Solved(bundle) => bundle.put(buffer, sink),
         }
     }
 }
@@ -151,8 +212,19 @@ impl SolveAnswer {
         match self {
             SolveAnswer::FaultOfDetail(_)
             | SolveAnswer::FaultOfBody(_)
-            | SolveAnswer::GridTooLarge(_)
-            | SolveAnswer::NotBuilt => Status::Refused,
+            | SolveAnswer::GridTooLarge(_) => Status::Refused,
+            SolveAnswer::Solved(bundle) => status_of(bundle),
         }
+    }
+}
+
+// The status of a run that tells a bundle.
+fn status_of(bundle: &SolvedBundle) -> Status
+    ensures { result ≡ solved_status bundle.now }
+{
+    if bundle.is_done() {
+        Status::Fine
+    } else {
+        Status::WidthNotReached
     }
 }

@@ -1,9 +1,10 @@
 // The top call.
 ghost use Rattle.std.specs.Prelude.{◌≡◌, ◌⊎◌, ◌+◌, ◌<◌, ◌≤◌, IfSome, None, Some, codes, length, map, string_bytes};
+ghost use Rattle.tb_options.specs.declared.SolveOptions.{SolveOptions};
 ghost use Rattle.tb_outside.specs.Faults.{Rose, Stands};
 ghost use Rattle.tb_outside.specs.Limits.{most_input_bytes};
 ghost use Rattle.tb_outside.specs.Outside.{Adds, TakesExactly};
-ghost use Rattle.thermal_cli.specs.Outcome.{IsAnswered, IsInterrupted, IsOutcome, Runs, TellsAccepted, TellsOf, TellsReport, WritesFrontOfOne};
+ghost use Rattle.thermal_cli.specs.Outcome.{IsAnswered, IsInterrupted, IsOutcome, NamesSolve, Runs, TellsAccepted, TellsOf, TellsReport, TellsSolved, WritesFrontOfOne};
 ghost use Rattle.thermal_cli.specs.Words.{HasReading, Names};
 ghost use Rattle.thermal_cli.specs.declared.words.Command.{Command};
 
@@ -42,11 +43,10 @@ fn work<S: Source>(alloc: Global, words: &[String], source: &mut S) -> Told
 /// Runs the program on these words, which don't begin with the program's name.
 ///
 /// `check` reads a bundle from the source, and writes the intervals that it certifies. `report` reads a bundle too, and
-/// writes the figures that follow from them: coupling coefficients, U-values, Ψ and χ. `solve` reads a detail and tells
-/// its first fault, that of its body, or why its level grid is too large; solving comes later, so any other body is
-/// refused as not built. `uvalue` reads a detail, and writes the U-values of its parts. `check`, `report` and `uvalue`
-/// take nothing; behind `solve` stand its options, each at most once, as `--width 5` or `--width=5`: `--width`, `--grade`,
-/// `--halve`, `--sweeps`.
+/// writes the figures that follow from them: coupling coefficients, U-values, Ψ and χ. `solve` reads a detail and writes the
+/// bundle that certifies an interval of each case, or tells its first fault, that of its body, or why its level grid is too
+/// large. `uvalue` reads a detail, and writes the U-values of its parts. `check`, `report` and `uvalue` take nothing; behind
+/// `solve` stand its options, each at most once, as `--width 5` or `--width=5`: `--width`, `--grade`, `--halve`, `--sweeps`.
 /// Where the input is refused, one line says why (`docs/FORMATS.md`). All memory is taken before the first byte is
 /// written.
 pub fn run<S: Source, K: Sink>(
@@ -101,6 +101,19 @@ pub fn run<S: Source, K: Sink>(
     // So are those of a report; the coupling coefficients, Ψ and χ that are made of them are sound too.
     ensures reported { result ≡ Status.Fine → Names (map string_bytes words.now) Command.Report
         → TellsReport (S.left source.old) (S.left source.new) (K.holds sink.old) (K.holds sink.new) }
+
+    // The bundle that `solve` writes is of the detail that was read: all its cases in order, each on the level grid that the
+    // options say, with a solution for the width and the passes that they say. Each interval is that of the field and of the
+    // balanced flux beside it, and is sound on every refinement of the body. The text has no fault: `check` accepts it as
+    // the same bundle. Fine comes where all verdicts are `done`, else WidthNotReached.
+    ensures solved { (result ≡ Status.Fine) ⊎ (result ≡ Status.WidthNotReached)
+        → (o : SolveOptions) → Names (map string_bytes words.now) (Command.Solve o)
+        → TellsSolved o (S.left source.old) (S.left source.new) (K.holds sink.old) (K.holds sink.new) result }
+
+    // WidthNotReached comes only of `solve`, and the bundle was written whole.
+    ensures width_not_reached { result ≡ Status.WidthNotReached → NamesSolve (map string_bytes words.now)
+        × IsAnswered (map string_bytes words.now) (S.left source.old) (S.left source.new)
+        (K.holds sink.old) (K.holds sink.new) Status.WidthNotReached }
 
     // CertificateRefused comes only of `check` and `report`, and tells the first fault of the bundle.
     ensures certificate_refused { result ≡ Status.CertificateRefused

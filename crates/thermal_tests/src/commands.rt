@@ -87,13 +87,11 @@ uvalue|0 U,timber,0.317444,0.317445,0.0228;end;|8:mat,plaster,0.25;mat,timber,0.
 uvalue|0 U,wall,2.702702,2.702703,0.0000;U,edge,4.235294,4.235295,0.2001;end;|8:mat,a,3.5;mat,b,0.1;part,wall,0.13,0.04;layer,wall,200,wall;part,edge,0.11,0.04,1,1;layer,edge,70,a,b\n\
 uvalue|1 refused,RatioAbove,part edge;|8:mat,a,3.5;mat,b,0.0999;part,wall,0.13,0.04;layer,wall,200,wall;part,edge,0.11,0.04,1,1;layer,edge,70,a,b;part,next,0.11,0.04,1,1;layer,next,70,a,b\n\
 uvalue|1 refused,EmptyPart,record 9;|8:#;part,wall,0.13,0.04\n\
-solve|1 refused,NotBuilt;\n\
 solve|1 refused,TooFewEnvironments;|3:|7:\n\
 solve|1 refused,NoSolid;|5:\n\
 solve|1 refused,Overlap,boxes 1 2;|6:air,inside,0.13,0,0.2,0,1000,0,1000\n\
 solve|1 refused,Uncovered,200 999.9 999.9;|5:solid,wall,0.1,200.1,0,1000,0,999.9;solid,wall,0.1,200.1,0,999.9,999.9,1000;solid,wall,0.1,200,999.9,1000,999.9,1000\n\
 solve|1 refused,Isolated,0.1 0 0;|6:|7:\n\
-solve --width 0 --grade 0 --halve 0 --sweeps 1|1 refused,NotBuilt;\n\
 solve --grade 12 --halve 6|1 refused,GridTooLarge,cells 543001536;\n\
 solve --halve 6 --grade 12|1 refused,GridTooLarge,lines x 2066;|1:detail,1,2|4:mat,masonry,0.6;mat,insulation,0.04|5:air,outside,0.04,0,0.1,0,1300.1;air,outside,0.04,0.1,1300.1,0,0.1;solid,insulation,0.1,100.1,0.1,1300.1;solid,insulation,100.1,1300.1,0.1,100.1|6:solid,masonry,100.1,300.1,100.1,1300.1;solid,masonry,300.1,1300.1,100.1,300.1;air,inside,0.13,300.1,1300.1,300.1,1300.1|7:\n\
 solve --grade 12 --halve 6|1 refused,Isolated,0.1 0 0;|6:|7:\n\
