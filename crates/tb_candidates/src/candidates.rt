@@ -7,7 +7,8 @@ ghost use Rattle.tb_geometry.specs.Grids.{CarriesBody};
 use crate::table::CellTable;
 use std::alloc::{AllocError, Global};
 use tb_cg::{
-    Form, Held, MOST_FLOW, Points, begin_at, couple_cells, face_flows, start_field, write_found,
+    Form, Held, MOST_FLOW, Points, begin_at, couple_cells, face_flows, scale_of_links, start_field,
+    write_found,
 };
 use tb_geometry::{Body, Case};
 use tb_gradients::{Matrix, Solver};
@@ -31,7 +32,7 @@ enum Stage {
 // nodes' factor.
 const CELL_SHARE: u16 = 998;
 
-const NODE_SHARE: u16 = 985;
+const NODE_SHARE: u16 = 992;
 
 // The most steps of a solution of the cells' system.
 const MOST_STEPS: u32 = 3_000;
@@ -72,6 +73,8 @@ pub struct Candidates {
     form: Form,
     matrix: Matrix,
     solver: Solver,
+    // Of the couplings of the cells' system.
+    scale: i32,
     stage: Stage,
 }
 
@@ -93,23 +96,26 @@ impl Candidates {
             return Ok(None);
         };
         let form = Form::new(alloc, table.cells(), points)?;
+        let scale = scale_of_links(table.cells());
         Ok(Some(Candidates {
             table,
             points,
             form,
             matrix: Matrix::new(alloc, points.layout)?,
             solver: Solver::new(alloc, points.layout)?,
+            scale,
             stage: Stage::New,
         }))
     }
 
-    // Makes the cells' system beside a present flux and solves it, from the last solution if there is one. Gives the scale.
-    fn solve(&mut self, present: &[i64]) -> Option<i32> {
+    // Makes the cells' system beside a present flux and solves it, from the last solution if there is one.
+    fn solve(&mut self, present: &[i64]) -> Option<()> {
         let goes_on = self.has_temperatures();
         self.stage = Stage::Ended;
-        let scale = couple_cells(
+        couple_cells(
             self.table.cells(),
             self.points,
+            self.scale,
             present,
             &mut self.matrix,
             &mut self.solver,
@@ -126,7 +132,7 @@ impl Candidates {
                 .solve(&self.matrix, &self.matrix, MOST_STEPS, ACCURACY);
         }
         self.stage = Stage::Cells;
-        Some(scale)
+        Some(())
     }
 
     // Whether the solver holds the cells' temperatures.
@@ -142,12 +148,12 @@ impl Candidates {
     {
         flows.fill(0);
         let goes_on = self.has_temperatures();
-        let Some(scale) = self.solve(present) else {
+        if self.solve(present).is_none() {
             return false;
-        };
+        }
         let temperatures = self.solver.solution();
         let cells = self.table.cells();
-        face_flows(cells, self.points, temperatures, scale, present, flows);
+        face_flows(cells, self.points, temperatures, self.scale, present, flows);
         if goes_on {
             go_beyond(present, flows);
         }

@@ -48,6 +48,28 @@ fn scale_of(cells: Cells) -> i32 {
     scale_for(bits)
 }
 
+// How many cells are solid.
+fn solids(cells: Cells) -> usize {
+    let mut count = 0usize;
+    for number in 0..cells.counts.cells() {
+        let place = cells.counts.cell_place(CellId(number));
+        count = count.saturating_add(usize::from(cells.conductivity(place).is_some()));
+    }
+    count
+}
+
+// How many surfaces there are.
+fn surfaces(cells: Cells) -> usize {
+    let mut count = 0usize;
+    for number in 0..cells.counts.cells() {
+        let place = cells.counts.cell_place(CellId(number));
+        for axis in AXES {
+            count = count.saturating_add(usize::from(cells.surface(axis, place).is_some()));
+        }
+    }
+    count
+}
+
 // The place of a node, as it is stored.
 fn stored(at: usize) -> u32 {
     u32::try_from(at).unwrap_or(u32::MAX)
@@ -102,8 +124,8 @@ impl Form {
     /// Memory ran out.
     pub fn new(alloc: Global, cells: Cells, points: Points) -> Result<Form, AllocError> {
         let scale = scale_of(cells);
-        let mut cell_forms = Vec::new(alloc);
-        let mut face_forms = Vec::new(alloc);
+        let mut cell_forms = Vec::with_capacity(alloc, solids(cells))?;
+        let mut face_forms = Vec::with_capacity(alloc, surfaces(cells))?;
         for number in 0..cells.counts.cells() {
             let place = cells.counts.cell_place(CellId(number));
             if let Some(lambda) = cells.conductivity(place) {

@@ -31,4 +31,4 @@ pub use form::Form;
 pub use nodes::Held;
 pub use points::Points;
 pub use start::start_field;
-pub use system::{RIGHT_SIDE_EXPONENT, couple_cells};
+pub use system::{RIGHT_SIDE_EXPONENT, couple_cells, scale_of_links};

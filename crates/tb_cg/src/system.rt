@@ -22,8 +22,8 @@ fn bits_at(cells: Cells, place: Place) -> i32 {
     bits
 }
 
-// The scale at which all links have at most 54 bits.
-fn scale_of(cells: Cells) -> i32 {
+/// The scale of the cells' system: couplings are times `2^scale`, in 10⁻⁸ W/K, and have at most 54 bits.
+pub fn scale_of_links(cells: Cells) -> i32 {
     let mut bits = i32::MIN;
     for number in 0..cells.counts.cells() {
         bits = bits.max(bits_at(cells, cells.counts.cell_place(CellId(number))));
@@ -103,8 +103,8 @@ fn couple_cell(
 
 /// Makes the system of the temperatures in the middles of the solid cells: the matrix has the conductance from middle to
 /// middle, or from middle to environment, and the solver's residual what the environments at 1 give, and what a present
-/// flux asks for beside. Both times `2^scale`, in 10⁻⁸ W/K: the answer is the scale. None where a sum doesn't fit, or the
-/// matrix or the solver have another layout.
+/// flux asks for beside, both with the scale of [`scale_of_links`]. None where a sum doesn't fit, or the matrix or the
+/// solver have another layout.
 ///
 /// The present flux is in the index order of faces, in nW per unit difference. Where it is 0, or there is none, the
 /// solution's flows ([`face_flows`](crate::face_flows)) are those of the resistances from middle to middle. Else they are
@@ -112,16 +112,16 @@ fn couple_cell(
 pub fn couple_cells(
     cells: Cells,
     points: Points,
+    scale: i32,
     flows: &[i64],
     matrix: &mut Matrix,
     solver: &mut Solver,
-) -> Option<i32> {
+) -> Option<()> {
     matrix.clear();
     solver.clear_residual(RIGHT_SIDE_EXPONENT);
-    let scale = scale_of(cells);
     for number in 0..cells.counts.cells() {
         let place = cells.counts.cell_place(CellId(number));
         couple_cell(cells, points, place, scale, flows, matrix, solver)?;
     }
-    Some(scale)
+    Some(())
 }

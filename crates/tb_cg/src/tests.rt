@@ -72,7 +72,8 @@ fn solve_flows(
     solver: &mut Solver,
     flows: &mut [i64],
 ) -> Option<End> {
-    let scale = couple_cells(cells, points, &[], matrix, solver)?;
+    let scale = scale_of_links(cells);
+    couple_cells(cells, points, scale, &[], matrix, solver)?;
     matrix.finish(998)?;
     let outcome = solver.solve(matrix, matrix, 100, 30);
     face_flows(cells, points, solver.solution(), scale, &[], flows);
