@@ -10,8 +10,8 @@ use tb_case_records::Verdict;
 use tb_moves::Session;
 use tb_terms::Interval;
 
-// How wide an interval is, in fW/K.
-fn width_of(interval: Interval) -> i128
+/// How wide an interval is, in fW/K.
+pub fn width_of(interval: Interval) -> i128
     requires { AreSmall interval }
     ensures width { result ≡ width_of interval }
     ensures size { unsigned_abs result ≤ 2 ^ 122 }

@@ -1,9 +1,109 @@
 // Conjugate-gradient rounds.
+ghost use Rattle.std.specs.Prelude.{◌≡◌, ◌^◌, ◌≤◌, IfOk, unsigned_abs};
 ghost use Rattle.tb_moves.specs.Sessions.{AreAlike};
+ghost use Rattle.tb_rounds.specs.Rounds.{site_of};
+ghost use Rattle.tb_driver.specs.Solved.{AreSmall};
 
+use crate::judge::{is_reached, width_of};
+use std::alloc::Global;
+use tb_field::NoMemory;
 use tb_moves::Session;
+use tb_rounds::{CgWork, field_round, flux_round};
 
-/// Makes rounds until the interval is as narrow as was wanted, or they gain nothing more. There are none yet.
-pub fn rounds(_session: &mut Session, _width: u64)
-    ensures { AreAlike _session.old _session.new }
-{}
+// A search makes at most 2,000 rounds: 125 series of 16.
+const MOST_SERIES: u32 = 125;
+
+const SERIES: u32 = 16;
+
+// A round on the flux costs about as much as so many on the field.
+const FLUX_COST: i128 = 8;
+
+// What the last round of each kind gained, in fW/K, the flux's by its cost: 0 where such a round gains no more. What wasn't
+// tried yet promises most.
+#[derive(Clone, Copy)]
+struct Promises {
+    field: i128,
+    flux: i128,
+}
+
+// How wide the present interval is, in fW/K.
+fn present_width(session: &Session) -> i128
+    ensures { unsigned_abs result ≤ 2 ^ 122 }
+{
+    width_of(session.interval())
+}
+
+// What was gained, if anything was.
+fn gain(before: i128, after: i128) -> i128
+    requires before { unsigned_abs before ≤ 2 ^ 122 }
+    requires after { unsigned_abs after ≤ 2 ^ 122 }
+{
+    before - after
+}
+
+// Makes a round of the kind that promises more.
+fn make_round(session: &mut Session, work: &mut CgWork, promises: &mut Promises)
+    requires made { work.old ≡ site_of session.old }
+    ensures alike { AreAlike session.old session.new }
+    ensures work { work.new ≡ work.old }
+{
+    let before = present_width(session);
+    if promises.flux >= promises.field {
+        flux_round(session, work);
+        promises.flux = gain(before, present_width(session)) / FLUX_COST;
+    } else {
+        field_round(session, work);
+        promises.field = gain(before, present_width(session));
+    }
+}
+
+// Whether no kind of round gains any more.
+fn are_spent(promises: Promises) -> bool {
+    promises.field <= 0 && promises.flux <= 0
+}
+
+// Makes a series of rounds, and says whether another is worth it: whether the interval is still too wide, and the series
+// gained at least a 1,024th of the width that is left.
+fn make_series(
+    session: &mut Session,
+    work: &mut CgWork,
+    promises: &mut Promises,
+    width: u64,
+) -> bool
+    requires made { work.old ≡ site_of session.old }
+    requires width { width ≤ 10 ^ 9 }
+    ensures alike { AreAlike session.old session.new }
+    ensures work { work.new ≡ work.old }
+{
+    let before = present_width(session);
+    for _round in 0..SERIES {
+        if is_reached(session.interval(), width) || are_spent(*promises) {
+            return false;
+        }
+        make_round(session, work, promises);
+    }
+    let after = present_width(session);
+    gain(before, after) >= after / 1_024
+}
+
+/// Makes rounds, at most 2,000, until the interval is at most so wide, in µW/K, or neither kind gains, or the last 16 gained
+/// less than a 1,024th of the width that is left.
+///
+/// # Errors
+/// Memory ran out.
+pub fn make_rounds(alloc: Global, session: &mut Session, width: u64) -> Result<(), NoMemory>
+    requires { width ≤ 10 ^ 9 }
+    ensures { AreAlike session.old session.new }
+{
+    let mut work = CgWork::new(alloc, session)?;
+    let mut promises = Promises {
+        field: i128::MAX,
+        flux: i128::MAX,
+    };
+    for _series in 0..MOST_SERIES {
+        if !make_series(session, &mut work, &mut promises, width) {
+            break;
+        }
+    }
+    Ok(())
+}

@@ -7,7 +7,7 @@ ghost use Rattle.tb_driver.specs.Solved.{AreInLimits, IsSolution};
 use crate::choice::narrower;
 use crate::judge::judged;
 use crate::passes::{make_plain, narrow};
-use crate::rounds::rounds;
+use crate::rounds::make_rounds;
 use crate::solved::Solved;
 use std::alloc::Global;
 use tb_case_records::Verdict;
@@ -63,7 +63,7 @@ fn searched(
     ensures { IfOk result (IsCandidate body.now grid.now case.mask width) }
 {
     let mut session = Session::new(alloc, body, grid, case)?;
-    rounds(&mut session, width);
+    make_rounds(alloc, &mut session, width)?;
     narrow(&mut session, width, sweeps);
     Ok(judged(session, width))
 }
