@@ -1,0 +1,10 @@
+pub mod Weights
+pub mod Flows
+pub mod TermWeights
+pub mod Counting
+pub mod Costs
+pub mod Bodies
+pub mod Zero
+pub mod Filling
+pub mod Moves
+pub mod Ends
