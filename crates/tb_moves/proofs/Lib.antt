@@ -1,0 +1,5 @@
+pub mod OnTables
+pub mod WrittenOver
+pub mod Lists
+pub mod Kept
+pub mod Starting

@@ -1,0 +1,5 @@
+pub mod Moves
+pub mod FluxPasses
+pub mod Sessions
+pub mod Settings
+pub mod Keeping

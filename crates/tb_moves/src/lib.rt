@@ -1,0 +1,14 @@
+//! The solver's session: a body on a grid in a case, with a present field and a present flux, and the moves that better
+//! them. Whatever a solver does with it, the field keeps to the limits and the flux is balanced, so the two ends that
+//! [`Session::interval`] answers are sound.
+#![tactic(auto)]
+
+mod edges;
+mod halves;
+mod moves;
+mod moving;
+mod session;
+mod setting;
+
+pub use moves::Move;
+pub use session::Session;
