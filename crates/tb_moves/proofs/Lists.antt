@@ -1,6 +1,5 @@
 -- Lists of whole numbers that aren't told apart are one.
-use Rattle.std.proofs.Common.{◌≡◌, ◌≢◌, refl, sym, Bool, true, false, List, rules}
-use Rattle.std.proofs.lemmas.Bool.{false≢true}
+use Rattle.std.proofs.Common.{◌≡◌, ◌≢◌, Bool, true, false, List, rules}
 use Rattle.std.specs.Bool.{Decides}
 use Rattle.std.specs.Cmp.Lexicographic.{pointwise}
 use Rattle.std.specs.Cmp.Rules.{signed_items}

@@ -11,7 +11,7 @@ use Rattle.tb_model.specs.Mesh.{Mesh}
 use Rattle.tb_weighted.specs.FlowMoves.{IsFlowMove, loop_where}
 use Rattle.tb_weighted.specs.Forms.{IsFormMove}
 use Rattle.tb_weighted.specs.Limits.{IsField, IsFlux}
-use Rattle.tb_weighted.specs.Moves.{IsInnerEdge, IsLoopMove, IsNodeMove, Move, loop_moves, nodes}
+use Rattle.tb_weighted.specs.Moves.{IsLoopMove, IsNodeMove, Move, loop_moves, nodes}
 use Rattle.tb_weighted.specs.Moves.Move.{Loop, Node}
 use Rattle.tb_weighted.specs.Sequences.{AreMade}
 use Rattle.tb_weighted.proofs.FlowMoves.{loop_move}

@@ -3,10 +3,13 @@
 //! [`Session::interval`] answers are sound.
 #![tactic(auto)]
 
+mod cycles;
 mod edges;
+mod ends;
 mod halves;
 mod moves;
 mod moving;
+mod offers;
 mod session;
 mod setting;
 

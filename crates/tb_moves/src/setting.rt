@@ -22,11 +22,11 @@ use tb_trees::OutletTree;
 /// A body on a grid that carries it, in a case, with the weights of its cells and faces and its outlets.
 #[derive(Drop)]
 pub(crate) struct Setting<'a> {
-    body: &'a Body,
-    grid: &'a Grid,
-    case: Case,
-    tables: Tables,
-    tree: OutletTree,
+    pub(crate) body: &'a Body,
+    pub(crate) grid: &'a Grid,
+    pub(crate) case: Case,
+    pub(crate) tables: Tables,
+    pub(crate) tree: OutletTree,
 }
 
 impl<'a> Model for Setting<'a> {
@@ -65,7 +65,12 @@ impl<'a> Setting<'a> {
     ///
     /// # Errors
     /// Memory ran out.
-    pub fn new(alloc: Global, body: &'a Body, grid: &'a Grid, case: Case) -> Result<Setting<'a>, NoMemory>
+    pub fn new(
+        alloc: Global,
+        body: &'a Body,
+        grid: &'a Grid,
+        case: Case,
+    ) -> Result<Setting<'a>, NoMemory>
         requires { CarriesBody grid.now body.now }
         ensures { IfOk result (λ s. s ≡ record { body = body.now; grid = grid.now; case = case }) }
     {
@@ -158,7 +163,7 @@ impl<'a> Setting<'a> {
     }
 
     // The weights of all cells and faces.
-    fn table(&self) -> Table<'_>
+    pub fn table(&self) -> Table<'_>
         ensures sound { IsTable result }
         ensures counts { table_counts result ≡ (mesh_in self.now).cells }
         ensures of_mesh { IsTableOf (mesh_in self.now) (case_in self.now) result }

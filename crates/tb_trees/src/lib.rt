@@ -9,6 +9,8 @@ mod flags;
 pub mod laws;
 mod memory;
 mod tree;
+mod ways;
 
 pub use memory::NoMemory;
 pub use tree::OutletTree;
+pub use ways::Ways;

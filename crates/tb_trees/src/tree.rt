@@ -8,6 +8,7 @@ ghost use Rattle.tb_trees.specs.Bodies.{KeepsTree};
 
 use crate::flags::{passable_faces, solid_cells};
 use crate::memory::NoMemory;
+use crate::ways::Ways;
 use std::alloc::{AllocError, Global};
 use std::marker::Model;
 use std::snapshot::Snapshot;
@@ -70,7 +71,7 @@ impl OutletTree {
     ghost use Rattle.tb_outlets.specs.Balancing.{IsWithinLimits, flow};
     ghost use Rattle.tb_outlets.specs.Outlets.{IsSolidAt};
     ghost use Rattle.tb_outlets.specs.Repair.{IsCycle, IsRepairAnswer, IsRepaired};
-    ghost use Rattle.tb_cycles.specs.Ways.{most_pull, sum_over};
+    ghost use Rattle.tb_cycles.specs.Ways.{LeadOut, most_pull, sum_over};
     ghost use Rattle.tb_outlets.specs.Trees.{IsDistanceAt, IsOutletNumber};
     ghost use Rattle.tb_cycles.specs.Entries.{HasCycle, IsEntry};
     ghost use Rattle.tb_trees.specs.Bodies.{mesh_of};
@@ -93,6 +94,17 @@ impl OutletTree {
             solid,
         })
     }
+
+    /// The distances and outlets of all cells, for whatever walks along outlets.
+    pub fn ways(&self) -> Ways<'_>
+        ensures { LeadOut (mesh_of self.now) result.marks.now result.sides.now }
+    {
+        Ways {
+            marks: self.tree.marks.as_slice(),
+            sides: self.tree.sides.as_slice(),
+        }
+    }
+
     /// The number of the grid's faces.
     pub fn faces(&self) -> u32
         ensures { result ≡ face_count (counts_of self.now.grid) }

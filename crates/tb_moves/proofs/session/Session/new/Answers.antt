@@ -1,6 +1,3 @@
-use Rattle.std.proofs.Common.{subst}
-use Rattle.tb_moves.specs.Keeping.{KeepsSession}
-use Rattle.tb_moves.specs.Sessions.{Session}
 use Rattle.tb_moves.proofs.Starting.{kept_at_start}
 use Rattle.tb_moves.proofs.session.Session.new.Goals as goal
 

@@ -17,9 +17,10 @@ has_cycle-requires c =
 pub returns-then-face-faces : goal.returns-then-face-faces
 returns-then-face-faces c =
     let keeps = subst (λ (s : Setting). KeepsSetting s c.self.inside.tables c.self.inside.tree) c.self.view_is c.self.invariant in
-    let count : c.faces.result ≡ face_count (mesh_in c.args.self.now).cells = c.faces.ensures ∙ ap (λ (n : Counts). face_count n) c.counts.ensures in
-    (λ t. (subst (λ (n : ℕ). c.args.face.0 < n) count c.if-face-faces.true, subst (λ (b : BodyOnGrid). HasCycle (bodies.mesh_of b) c.args.face.0) keeps.outlets (c.has_cycle.ensures.0 t)),
-    λ h. c.has_cycle.ensures.1 (subst (λ (b : BodyOnGrid). HasCycle (bodies.mesh_of b) c.args.face.0) (sym keeps.outlets) h.1))
+    let count : c.faces.result ≡ face_count (mesh_in c.args.self.now).cells = c.faces.ensures ∙ ap (λ (n : Counts). face_count n) c.counts.ensures in (
+      λ t. (subst (λ (n : ℕ). c.args.face.0 < n) count c.if-face-faces.true, subst (λ (b : BodyOnGrid). HasCycle (bodies.mesh_of b) c.args.face.0) keeps.outlets (c.has_cycle.ensures.0 t)),
+      λ h. c.has_cycle.ensures.1 (subst (λ (b : BodyOnGrid). HasCycle (bodies.mesh_of b) c.args.face.0) (sym keeps.outlets) h.1),
+    )
 
 pub returns-else-face-faces : goal.returns-else-face-faces
 returns-else-face-faces c =

@@ -1,4 +1,4 @@
-use Rattle.std.proofs.Common.{◌≡◌, ℕ, ◌∙◌, ap, rules}
+use Rattle.std.proofs.Common.{◌≡◌, ◌∙◌, ap, rules}
 use Rattle.tb_places.specs.Places.{Counts, node_count}
 use Rattle.tb_moves.specs.Settings.{mesh_in}
 use Rattle.tb_moves.proofs.setting.Setting.has_node.Goals as goal

@@ -1,5 +1,5 @@
 use Rattle.std.proofs.Common.{subst}
-use Rattle.tb_moves.specs.Settings.{KeepsSetting, Setting, case_in, mesh_in}
+use Rattle.tb_moves.specs.Settings.{KeepsSetting, Setting}
 use Rattle.tb_moves.proofs.setting.Setting.keeps.Goals as goal
 
 pub returns-clause-carries : goal.returns-clause-carries

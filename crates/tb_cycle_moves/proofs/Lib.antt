@@ -1,0 +1,15 @@
+pub mod Directions
+pub mod Crossing
+pub mod Passing
+pub mod Bends
+pub mod Surveying
+pub mod Sizes
+pub mod Seen
+pub mod Nothing
+pub mod Beginning
+pub mod Steps
+pub mod Multiples
+pub mod Turning
+pub mod Entries
+pub mod Keeping
+pub mod OneMove
