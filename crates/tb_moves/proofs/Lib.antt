@@ -9,3 +9,4 @@ pub mod Offered
 pub mod PassSettled
 pub mod Settling
 pub mod Passing
+pub mod Leaving

@@ -3,3 +3,4 @@ pub mod FluxPasses
 pub mod Sessions
 pub mod Settings
 pub mod Keeping
+pub mod Leaving

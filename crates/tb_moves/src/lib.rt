@@ -7,6 +7,7 @@ mod cycles;
 mod edges;
 mod ends;
 mod halves;
+pub mod laws;
 mod moves;
 mod moving;
 mod offers;
