@@ -1,0 +1,12 @@
+pub mod OnTables
+pub mod OnTrees
+pub mod WrittenOver
+pub mod Lists
+pub mod Kept
+pub mod Starting
+pub mod Applying
+pub mod Offered
+pub mod PassSettled
+pub mod Settling
+pub mod Passing
+pub mod Leaving

@@ -5,7 +5,7 @@ use Rattle.tb_model.specs.Mesh.{Mesh}
 use Rattle.tb_weighted.specs.Moves.{IsLoopMove, Move, loop_moves}
 use Rattle.tb_weighted.specs.Moves.Move.{Loop, Node}
 use Rattle.tb_weighted.specs.Sequences.{AreMade}
-use Rattle.tb_moves.specs.Moves.{AreCycleMoves}
+use Rattle.tb_cycle_moves.specs.Turns.{AreCycleTurns}
 
 -- a move on a flux: that of a loop; there is none of a node
 abbrev pub IsFluxMove : Mesh → Case → Move → List ℤ → List ℤ → Type 0
@@ -18,4 +18,4 @@ pub record IsRelaxedFlux (m : Mesh) (inside : Case) (old new : List ℤ) : Type 
   pub told_before : Bool
   pub told_after : Bool
   pub loops : AreMade (List ℤ) Move (IsFluxMove m inside) (loop_moves m.cells) old mid told_before
-  pub cycles : AreCycleMoves m inside mid new told_after
+  pub cycles : AreCycleTurns m inside mid new told_after

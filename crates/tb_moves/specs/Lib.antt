@@ -1,3 +1,6 @@
 pub mod Moves
 pub mod FluxPasses
 pub mod Sessions
+pub mod Settings
+pub mod Keeping
+pub mod Leaving

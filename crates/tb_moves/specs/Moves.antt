@@ -2,16 +2,17 @@
 --
 -- A move of a node sets its value, a move of a loop or of a cycle adds a multiple of it to the flux: each to the least
 -- of the weighted energy within the limits, and the nearest to what it was.
-use Rattle.std.specs.Prelude.{◌≡◌, ◌||◌, ◌<◌, ◌⊎◌, ℕ, zero, suc, Bool, List, replicate, ℤ, pos}
+use Rattle.std.specs.Prelude.{◌≡◌, ◌||◌, ◌<◌, ℕ, zero, suc, Bool, List, replicate, ℤ, pos}
 use Rattle.tb_places.specs.Inverse.{edge_place}
 use Rattle.tb_places.specs.declared.Place.{Place}
 use Rattle.tb_places.specs.Places.{edge_count, face_count, node_count, node_number}
 use Rattle.tb_model.specs.Energy.{Case}
 use Rattle.tb_model.specs.Mesh.{Mesh}
-use Rattle.tb_weighted.specs.Moves.{IsInnerEdge, IsLoopMove, IsNodeMove, IsPass, State, counting, nodes}
+use Rattle.tb_weighted.specs.Moves.{IsInnerEdge, IsLoopMove, IsNodeMove, IsPass, State, nodes}
 use Rattle.tb_weighted.specs.Sequences.{AreMade}
 use Rattle.tb_cycles.specs.Entries.{HasCycle}
 use Rattle.tb_cycles.specs.Moves.{IsCycleMove}
+use Rattle.tb_cycle_moves.specs.Turns.{AreCycleTurns}
 use Rattle.tb_moves.specs.declared.moves.Move.{Move}
 use Rattle.tb_moves.specs.declared.moves.Move.TheVariants.{Node, Loop, Cycle}
 
@@ -30,21 +31,13 @@ IsMove m inside (Cycle f) old new = IsCycleMove m inside f.0 old.flux new.flux �
 abbrev pub AreMoves : Mesh → Case → List Move → State → State → Bool → Type 0
 AreMoves m inside moves old new told = AreMade State Move (IsMove m inside) moves old new told
 
--- the cycle of a face, where it has one, is moved
-abbrev pub IsCycleTurn : Mesh → Case → ℕ → List ℤ → List ℤ → Type 0
-IsCycleTurn m inside f old new = (HasCycle m f × IsCycleMove m inside f old new) ⊎ (¬ (HasCycle m f) × (new ≡ old))
-
--- the moves of all cycles, in the order of their faces
-abbrev pub AreCycleMoves : Mesh → Case → List ℤ → List ℤ → Bool → Type 0
-AreCycleMoves m inside old new told = AreMade (List ℤ) ℕ (IsCycleTurn m inside) (counting 0 (face_count m.cells)) old new told
-
 -- a plain pass: the moves of all nodes, of the loops of all edges inside the hull, and of all cycles, each in order
 pub record IsPlainPass (m : Mesh) (inside : Case) (old new : State) (told : Bool) : Type 0 where
   pub mid : State
   pub told_before : Bool
   pub told_after : Bool
   pub before : IsPass m inside old mid told_before
-  pub cycles : AreCycleMoves m inside mid.flux new.flux told_after
+  pub cycles : AreCycleTurns m inside mid.flux new.flux told_after
   pub field : new.field ≡ mid.field
   pub any : told ≡ (told_before || told_after)
 
@@ -70,3 +63,7 @@ IsSettled m inside s = (move : Move) → HasMove m move → (new : State) → Is
 pub record IsRelaxedField (m : Mesh) (inside : Case) (old new : List ℤ) : Type 0 where
   pub told : Bool
   pub moves : AreMade (List ℤ) Place (λ p. IsNodeMove m inside (node_number m.cells p)) (nodes m.cells) old new told
+
+-- no move of a cycle changes a flux
+abbrev pub CyclesStay : Mesh → Case → List ℤ → Type 0
+CyclesStay m inside flows = (f : ℕ) → f < face_count m.cells → HasCycle m f → (new : List ℤ) → IsCycleMove m inside f flows new → new ≡ flows

@@ -61,13 +61,16 @@ pub record IsKept (s : Session) : Type 0 where
 abbrev pub IsLower : Session → List ℤ → Type 0
 IsLower s field = upper_of s field <ℤ upper_of s s.field
 
--- a flux is better than the present one: it is balanced, its loss is within the limit of sums, and its lower end is at
--- least 0 and higher
-pub record IsHigher (s : Session) (flux : List ℤ) : Type 0 where
-  pub balanced : IsBalanced (mesh_of s) (flux_on s.grid flux)
-  pub within : rounded_up (mesh_of s) (flux_terms (mesh_of s) (flux_on s.grid flux)) ≤ℤ pos (2 ^ 120)
-  pub least : pos 0 ≤ℤ lower_of s flux
-  pub higher : lower_of s s.flux <ℤ lower_of s flux
+-- a flux is balanced, its loss is within the limit of sums, and its lower end is at least 0 and higher than another
+pub record IsHigherThan (body : Detail) (grid : Axes) (case : Case) (other : ℤ) (flux : List ℤ) : Type 0 where
+  pub balanced : IsBalanced (mesh_on body grid) (flux_on grid flux)
+  pub within : rounded_up (mesh_on body grid) (flux_terms (mesh_on body grid) (flux_on grid flux)) ≤ℤ pos (2 ^ 120)
+  pub least : pos 0 ≤ℤ lower_end (mesh_on body grid) (case_of case.mask) (flux_on grid flux)
+  pub higher : other <ℤ lower_end (mesh_on body grid) (case_of case.mask) (flux_on grid flux)
+
+-- a flux is better than the present one
+abbrev pub IsHigher : Session → List ℤ → Type 0
+IsHigher s flux = IsHigherThan s.body s.grid s.case (lower_of s s.flux) flux
 
 -- the session with another field, and with another flux
 abbrev pub with_field : Session → List ℤ → Session

@@ -3,8 +3,16 @@
 //! [`Session::interval`] answers are sound.
 #![tactic(auto)]
 
+mod cycles;
+mod edges;
+mod ends;
+mod halves;
+pub mod laws;
 mod moves;
+mod moving;
+mod offers;
 mod session;
+mod setting;
 
 pub use moves::Move;
 pub use session::Session;
