@@ -143,7 +143,7 @@ impl Matrix {
         let none = Span { first: 0, last: 0 };
         Ok(Matrix {
             layout,
-            spans: vec![in alloc; none; places / 8]?,
+            spans: vec![in alloc; none; places / 8 + 1]?,
             span_count: 0,
             x: vec![in alloc; Coupling::ZERO; places]?,
             y: vec![in alloc; Coupling::ZERO; places]?,
