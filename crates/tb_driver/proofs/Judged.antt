@@ -1,5 +1,5 @@
 -- A session's state as a candidate of a search.
-use Rattle.std.proofs.Common.{◌≡◌, ◌∙◌, ap, sym, subst, ℕ, ◌^◌, ◌≤◌, List, ℤ, pos, ◌≤ℤ◌, unsigned_abs}
+use Rattle.std.proofs.Common.{◌≡◌, ◌∙◌, ap, sym, subst, ℕ, ◌^◌, List, ℤ, pos, ◌≤ℤ◌}
 use Rattle.tb_detail.specs.declared.Detail.{Detail}
 use Rattle.tb_grid.specs.Grid.{Axes}
 use Rattle.tb_model.specs.Energy.{flux_terms, rounded_up}

@@ -1,5 +1,5 @@
 -- The narrower of a state and a plain one is a solution.
-use Rattle.std.proofs.Common.{◌≡◌, sym, subst, arith, inl, inr, ℕ, ℤ, ◌≤ℤ◌, ◌<ℤ◌}
+use Rattle.std.proofs.Common.{sym, subst, arith, inl, inr, ℕ, ℤ, ◌≤ℤ◌, ◌<ℤ◌}
 use Rattle.std.proofs.lemmas.Int.{ints}
 use Rattle.tb_detail.specs.declared.Detail.{Detail}
 use Rattle.tb_grid.specs.Grid.{Axes}

@@ -1,4 +1,3 @@
-use Rattle.std.proofs.Common.{refl}
 use Rattle.tb_places.specs.declared.AxisName.TheVariants.{X, Y, Z}
 use Rattle.tb_solving.proofs.Right.{on_base}
 use Rattle.tb_solving.proofs.cases.look_at.Goals as goal
