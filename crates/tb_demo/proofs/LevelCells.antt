@@ -12,7 +12,8 @@ use Rattle.tb_grid.proofs.LevelLines.{level_lines}
 use Rattle.tb_grid.proofs.Rises.{cut_increases}
 use Rattle.tb_geometry.specs.Base.{base_axes, base_lines, with_line}
 use Rattle.tb_geometry.proofs.Lines.{base_rises}
-use Rattle.tb_demo.specs.Level.{HasLevelCells, demo_grading}
+use Rattle.tb_demo.specs.Level.{HasLevelCells}
+use Rattle.tb_demo.specs.Line.{demo_grading}
 use Rattle.tb_demo.specs.Section.{section, storeys}
 use Rattle.tb_demo.proofs.Computed.{each_number}
 

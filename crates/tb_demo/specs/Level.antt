@@ -4,12 +4,8 @@ use Rattle.tb_places.specs.Places.{cell_count}
 use Rattle.tb_detail.specs.declared.Detail.{Detail}
 use Rattle.tb_grid.specs.Grid.{Axes, IsGrid, counts_of}
 use Rattle.tb_grid.specs.Levels.{IsLevelOf}
-use Rattle.tb_grid.specs.declared.levels.Grading.{Grading}
 use Rattle.tb_geometry.specs.Base.{base_axes}
-
--- each interval is cut twice towards its ends, and never halved
-abbrev pub demo_grading : Grading
-demo_grading = record { grade = 2; halve = 0; dimension = 2 }
+use Rattle.tb_demo.specs.Line.{demo_grading}
 
 -- its level grid is a grid of so many cells
 pub record HasLevelCells (d : Detail) (count : ℕ) : Type 0 where

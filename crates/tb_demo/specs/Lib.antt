@@ -1,2 +1,3 @@
 pub mod Section
+pub mod Line
 pub mod Level

@@ -1,5 +1,5 @@
 -- What matches say of options, and that words give one list of options at most.
-use Rattle.std.proofs.Common.{◌≡◌, ◌∙◌, ap, refl, sym, subst, ℕ, ◌≤◌, List, Bool, true, false, ◌&&◌, Option, Some, None, Result, Ok, Err, leb-true, arith, if◌then◌else◌, nat_le}
+use Rattle.std.proofs.Common.{codes, ◌≡◌, ◌∙◌, ap, refl, sym, subst, ℕ, ◌≤◌, List, Bool, true, false, ◌&&◌, Option, Some, None, Result, Ok, Err, leb-true, arith, if◌then◌else◌, nat_le}
 use Rattle.std.specs.Prelude.{IfErr}
 use Rattle.clap.proofs.WalkLemmas.{first_value-rows}
 use Rattle.clap.specs.Words.{App, Row, Text, first_of, first_value, matches_of, rows_of}
@@ -10,7 +10,7 @@ use Rattle.tb_numbers.specs.declared.parse.NumberFault.TheVariants.{OutOfRange}
 use Rattle.tb_options.specs.declared.SolveOption.{SolveOption}
 use Rattle.tb_options.specs.declared.SolveOption.TheVariants.{Width, Grade, Halve, Sweeps}
 use Rattle.tb_options.specs.declared.SolveOptions.{SolveOptions}
-use Rattle.tb_options.specs.Options.{AreWithin, GivesOptions, IsReading, given, is_given, least_of, most_of, name_of, solve_app, value_of_text}
+use Rattle.tb_options.specs.Options.{AreWithin, GivesOptions, IsReading, IsStoreyReading, demo_app, given, is_given, least_of, most_of, name_of, solve_app, storeys_of_text, value_of_text}
 
 -- ---- what clap tells
 
@@ -76,3 +76,10 @@ pub no_options : (command : App) (words : List Text) (rows : List Row) → comma
     ((o : SolveOptions) → ¬ GivesOptions rows o) → (o : SolveOptions) → ¬ IsReading words o
 no_options command words rows is found none o r =
     none o (subst (λ (found : List Row). GivesOptions found o) (sym (found ∙ ap (λ (a : App). matches_of a words) is)) r.gives)
+
+pub no_storeys : (command : App) (words : List Text) (rows : List Row) (fault : NumberFault) → command ≡ demo_app → rows ≡ matches_of command words →
+    Err fault ≡ storeys_of_text (first_of (codes "storeys") rows) → (n : ℕ) → ¬ IsStoreyReading words n
+no_storeys command words rows fault is found none n r =
+    let same : rows ≡ matches_of demo_app words = found ∙ ap (λ (a : App). matches_of a words) is in
+    let both : ◌≡◌ {A = Result ℕ NumberFault} (Err fault) (Ok n) =
+    none ∙ ap (λ (found : List Row). storeys_of_text (first_of (codes "storeys") found)) same ∙ r.gives in cc both

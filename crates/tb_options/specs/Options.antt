@@ -1,9 +1,10 @@
--- The words of a command, as `clap` reads them, and the options of `solve`.
-use Rattle.std.specs.Prelude.{◌≡◌, ◌≤◌, ℕ, List, [], Option, Some, None, Result, Ok, Err, codes, if◌then◌else◌, ◌==◌}
+-- The words of a command, as `clap` reads them: the options of `solve`, and the one word of `demo`.
+use Rattle.std.specs.Prelude.{◌≡◌, ◌≤◌, ℕ, List, [], Option, Some, None, true, Result, Ok, Err, codes, if◌then◌else◌, ◌==◌}
 use Rattle.clap.specs.Words.{App, Row, Rule, Text, fault_of, first_of, matches_of, new_app, new_rule, with_rule}
 use Rattle.clap.specs.declared.builder.action.ArgAction.TheVariants.{Set}
 use Rattle.tb_numbers.specs.Reading.{decimal_reading, in_range}
 use Rattle.tb_numbers.specs.declared.parse.NumberFault.{NumberFault}
+use Rattle.tb_numbers.specs.declared.parse.NumberFault.TheVariants.{BadNumber}
 use Rattle.tb_options.specs.declared.SolveOption.{SolveOption}
 use Rattle.tb_options.specs.declared.SolveOption.TheVariants.{Width, Grade, Halve, Sweeps}
 use Rattle.tb_options.specs.declared.SolveOptions.{SolveOptions}
@@ -77,7 +78,27 @@ pub record IsReading (words : List Text) (o : SolveOptions) : Type 0 where
 abbrev pub AreWithin : SolveOptions → Type 0
 AreWithin o = (option : SolveOption) (n : ℕ) → given o option ≡ Some n → (least_of option ≤ n) × (n ≤ most_of option)
 
--- ---- where they are not given: the grade and the halvings go by the dimension of the detail
+-- ---- the one word of `demo`
+
+-- a word that must be there
+abbrev pub word_rule : Text → Rule
+word_rule name = record (new_rule name) { required = true; action = Some Set }
+
+-- the command `demo`, as clap knows it
+abbrev pub demo_app : App
+demo_app = with_rule (new_app (codes "demo")) (word_rule (codes "storeys"))
+
+-- the number of storeys by its text, a whole number from 1 to 16
+abbrev pub storeys_of_text : Option Text → Result ℕ NumberFault
+storeys_of_text None = Err BadNumber
+storeys_of_text (Some text) = in_range 1 16 (decimal_reading 0 text)
+
+-- clap has matches of the words of `demo`, and they give this number of storeys
+pub record IsStoreyReading (words : List Text) (n : ℕ) : Type 0 where
+  pub matches : HasMatches demo_app words
+  pub gives : storeys_of_text (first_of (codes "storeys") (matches_of demo_app words)) ≡ Ok n
+
+-- ---- where options of `solve` are not given: the grade and the halvings go by the dimension of the detail
 abbrev pub usual_grade : ℕ → ℕ
 usual_grade dimension = if dimension == 2 then 4 else 2
 

@@ -1,5 +1,5 @@
 //! The words of a command, read by `clap`: the options of the command `solve`, what holds where an option isn't given,
-//! and the words of a command that takes none.
+//! the one word of the command `demo`, and the words of a command that takes none.
 #![tactic(auto)]
 
 ghost use Rattle.std.specs.Prelude.{◌≡◌, codes, unwrap_or};
@@ -12,7 +12,7 @@ mod tests;
 mod words;
 
 pub use refusal::WordsRefusal;
-pub use words::{read_options, read_without_options};
+pub use words::{read_options, read_storeys, read_without_options};
 
 /// An option of `solve`.
 #[derive(Clone, Copy, Debug, PartialEq, Eq)]

@@ -2,7 +2,7 @@
 ghost use Rattle.std.specs.Prelude.{◌≡◌, ◌≢◌, IfErr, IfOk, IfSome, ◌≤◌, Ok, Err, map, option_map, string_bytes, true, false, codes};
 ghost use Rattle.clap.specs.Words.{HasKind, app_of, fault_of, first_of, found_of, is_simple_and_free, kind_of, matches_of, new_app, rows_of, rule_of};
 ghost use Rattle.clap.specs.declared.error.kind.ErrorKind.TheVariants as kind;
-ghost use Rattle.tb_options.specs.Options.{HasMatches, most_of, name_of, option_rule, solve_app, value_of_text};
+ghost use Rattle.tb_options.specs.Options.{HasMatches, demo_app, most_of, name_of, option_rule, solve_app, storeys_of_text, value_of_text, word_rule};
 ghost use Rattle.tb_options.specs.declared.refusal.WordsRefusal.TheVariants.{NoReading};
 
 use crate::{SolveOption, WordsRefusal};
@@ -28,6 +28,21 @@ pub(crate) fn solve_command<'a>(alloc: Global) -> Result<Command<'a>, AllocError
     let grade = width.arg(option(alloc, "grade"))?;
     let halve = grade.arg(option(alloc, "halve"))?;
     halve.arg(option(alloc, "sweeps"))
+}
+
+/// The command `demo` with its word.
+pub(crate) fn demo_command<'a>(alloc: Global) -> Result<Command<'a>, AllocError>
+    ensures { IfOk result (λ c. app_of c ≡ demo_app) }
+{
+    Command::new(alloc, "demo").arg(word(alloc, "storeys"))
+}
+
+// A word of this name, which must be there.
+fn word<'a>(alloc: Global, name: &'a str) -> Arg<'a>
+    ensures rule { rule_of result ≡ word_rule name.entry.now }
+    ensures local { result.global ≡ false }
+{
+    Arg::new(alloc, name).required(true).action(ArgAction::Set)
 }
 
 // Why there are no matches.
@@ -70,6 +85,29 @@ fn value_of_text(option: SolveOption, text: Option<&str>) -> Result<Option<u32>,
             Err(fault) => Err(fault),
         },
     }
+}
+
+// The number of storeys by its text.
+fn storeys_of_text(text: Option<&str>) -> Result<u8, NumberFault>
+    ensures value { result ≡ storeys_of_text (option_map (λ t. t.now) text.entry) }
+    ensures within { IfOk result (λ n. (1 ≤ n) × (n ≤ 16)) }
+{
+    match text {
+        None => Err(NumberFault::BadNumber),
+        Some(text) => match parse_decimal(text.as_bytes(), 0, 1, 16) {
+            Ok(value) => Ok(value as u8),
+            Err(fault) => Err(fault),
+        },
+    }
+}
+
+/// The number of storeys among matches.
+#[tactic(auto, using(crate::proofs::Readings::looked_up))]
+pub(crate) fn storeys_of(matches: &ArgMatches<'_>) -> Result<u8, NumberFault>
+    ensures value { result ≡ storeys_of_text (first_of (codes "storeys") (rows_of (found_of matches.now))) }
+    ensures within { IfOk result (λ n. (1 ≤ n) × (n ≤ 16)) }
+{
+    storeys_of_text(matches.get_str("storeys"))
 }
 
 /// The value of an option among matches.

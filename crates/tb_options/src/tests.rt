@@ -93,6 +93,27 @@ fn words_of_a_command_that_takes_nothing(rt: HostRuntime) -> Result<(), Fail> {
 }
 
 #[test]
+fn words_of_demo(rt: HostRuntime) -> Result<(), Fail> {
+    let alloc = rt.alloc();
+    for (text, want) in [
+        ("demo 1", Ok(1)),
+        ("demo -- 3", Ok(3)),
+        ("demo 016", Ok(16)),
+        ("demo", Err(WordsRefusal::NoReading)),
+        ("demo 0", Err(WordsRefusal::NoReading)),
+        ("demo 17", Err(WordsRefusal::NoReading)),
+        ("demo ", Err(WordsRefusal::NoReading)),
+        ("demo -1", Err(WordsRefusal::NoReading)),
+        ("demo 1 2", Err(WordsRefusal::NoReading)),
+        ("demo --help", Err(WordsRefusal::NoReading)),
+    ] {
+        let words = words_of(alloc, text)?;
+        assert_eq!(rt; read_storeys(alloc, words.as_slice()), want, "{text}");
+    }
+    Ok(())
+}
+
+#[test]
 fn where_no_option_is_given(rt: HostRuntime) {
     let none = SolveOptions {
         width: None,

@@ -1,11 +1,11 @@
 // The words of a command.
-ghost use Rattle.std.specs.Prelude.{◌≡◌, ◌≤◌, IfErr, IfOk, IfSome, Ok, map, string_bytes};
+ghost use Rattle.std.specs.Prelude.{◌≡◌, ◌≤◌, ℕ, IfErr, IfOk, IfSome, Ok, map, string_bytes};
 ghost use Rattle.clap.specs.Words.{found_of, new_app, rows_of};
 ghost use Rattle.tb_options.specs.declared.SolveOptions.{SolveOptions};
 ghost use Rattle.tb_options.specs.declared.refusal.WordsRefusal.TheVariants.{NoReading};
-ghost use Rattle.tb_options.specs.Options.{AreWithin, GivesOptions, HasMatches, IsReading};
+ghost use Rattle.tb_options.specs.Options.{AreWithin, GivesOptions, HasMatches, IsReading, IsStoreyReading};
 
-use crate::matches::{matches_of, solve_command, value_of};
+use crate::matches::{demo_command, matches_of, solve_command, storeys_of, value_of};
 use crate::{SolveOption, SolveOptions, WordsRefusal};
 use clap::{ArgMatches, Command};
 use std::alloc::Global;
@@ -21,6 +21,20 @@ pub fn read_options(alloc: Global, words: &[String]) -> Result<SolveOptions, Wor
     let matches = matches_of(solve_command(alloc)?, words)?;
     match options_of(&matches) {
         Ok(options) => Ok(options),
+        Err(_) => Err(WordsRefusal::NoReading),
+    }
+}
+
+/// The number of storeys that the words of `demo` give, of which the first is the command's own: one word, a whole number
+/// from 1 to 16.
+pub fn read_storeys(alloc: Global, words: &[String]) -> Result<u8, WordsRefusal>
+    ensures reading { IfOk result (IsStoreyReading (map string_bytes words.now)) }
+    ensures within { IfOk result (λ n. (1 ≤ n) × (n ≤ 16)) }
+    ensures no_reading { IfErr result (λ why. why ≡ NoReading → (n : ℕ) → ¬ IsStoreyReading (map string_bytes words.now) n) }
+{
+    let matches = matches_of(demo_command(alloc)?, words)?;
+    match storeys_of(&matches) {
+        Ok(storeys) => Ok(storeys),
         Err(_) => Err(WordsRefusal::NoReading),
     }
 }
