@@ -4,12 +4,13 @@ use Rattle.std.specs.Prelude.{nat_le, nat_lt, sum_by}
 use Rattle.std.proofs.lemmas.Bool.{eqb-true, leb-true, ltb-true, false≢true}
 use Rattle.tb_places.specs.declared.AxisName.TheVariants.{X, Y, Z}
 use Rattle.tb_places.specs.Places.{IsCell, cell_count, place_at}
+use Rattle.tb_places.specs.Lines.{with_line}
 use Rattle.tb_detail.specs.declared.Content.{Content}
 use Rattle.tb_detail.specs.declared.Content.TheVariants.{Air, Solid}
 use Rattle.tb_grid.specs.Grid.{most_cells}
 use Rattle.tb_walk.specs.Isolated.{IsFilled}
 use Rattle.tb_walk.proofs.Together.{none_isolated}
-use Rattle.tb_geometry.specs.Base.{base_counts, base_lines, base_mesh, with_line}
+use Rattle.tb_geometry.specs.Base.{base_counts, base_lines, base_mesh}
 use Rattle.tb_geometry.specs.Bodies.{AreBoxes}
 use Rattle.tb_geometry.specs.Cubes.{AreApart, IsCovered}
 use Rattle.tb_geometry.specs.Faults.{HasFewCells, HasSolid, IsAccepted, IsSolidBox}

@@ -4,13 +4,14 @@ use Rattle.std.proofs.lemmas.Bool.{eqb-true}
 use Rattle.tb_places.specs.declared.AxisName.{AxisName}
 use Rattle.tb_places.specs.declared.AxisName.TheVariants.{X, Y, Z}
 use Rattle.tb_places.specs.Places.{cell_count}
+use Rattle.tb_places.specs.Lines.{with_line}
 use Rattle.tb_grid.specs.Axis.{IsAxis}
 use Rattle.tb_grid.specs.Grid.{Axes, counts_of, lines_of}
 use Rattle.tb_grid.specs.Levels.{IsLevelOf}
 use Rattle.tb_grid.proofs.CutLines.{cut_lines}
 use Rattle.tb_grid.proofs.LevelLines.{level_lines}
 use Rattle.tb_grid.proofs.Rises.{cut_increases}
-use Rattle.tb_geometry.specs.Base.{base_axes, base_lines, with_line}
+use Rattle.tb_geometry.specs.Base.{base_axes, base_lines}
 use Rattle.tb_geometry.proofs.Lines.{base_rises}
 use Rattle.tb_demo.specs.Level.{HasLevelCells}
 use Rattle.tb_demo.specs.Line.{demo_grading}
