@@ -16,9 +16,9 @@ use tb_trees::OutletTree;
 /// A session: a body on a grid in a case, with a present field and a present flux. Contracts see these five.
 ///
 /// The ends of the field and of the flux are kept once they are known, until a move or an offer changes the half that
-/// they belong to. For each cell of a large grid a session takes about 8 bytes for a node value, 24 for three flows, 16
-/// for the numbers of the rows of weights of a cell and of three faces, and 18 for its outlet; a row of weights, which
-/// cells that follow on one another share where they are alike, takes 80 for a cell and 48 for a face.
+/// they belong to. For each cell of a large grid a session takes about 66 bytes: 8 for a node value, 24 for three flows,
+/// 16 for the numbers of the rows of weights of a cell and three faces, and 18 for its outlet. The rows come on top, 80
+/// bytes for one of a cell and 32 for one of a face, which cells that follow on one another share where they are alike.
 #[derive(Drop)]
 pub struct Session<'a> {
     pub(crate) setting: Setting<'a>,
