@@ -96,11 +96,11 @@ solve --grade 12 --halve 6|1 refused,GridTooLarge,cells 543001536;\n\
 solve --halve 6 --grade 12|1 refused,GridTooLarge,lines x 2066;|1:detail,1,2|4:mat,masonry,0.6;mat,insulation,0.04|5:air,outside,0.04,0,0.1,0,1300.1;air,outside,0.04,0.1,1300.1,0,0.1;solid,insulation,0.1,100.1,0.1,1300.1;solid,insulation,100.1,1300.1,0.1,100.1|6:solid,masonry,100.1,300.1,100.1,1300.1;solid,masonry,300.1,1300.1,100.1,300.1;air,inside,0.13,300.1,1300.1,300.1,1300.1|7:\n\
 solve --grade 12 --halve 6|1 refused,Isolated,0.1 0 0;|6:|7:\n\
 solve --halve=6 --grade=12|1 refused,GridTooLarge,cells 543001536;\n\
-solve --width=5|1 refused,NotBuilt;\n\
-solve --width 1000000000 --grade 0 --sweeps=10000|1 refused,NotBuilt;\n\
-solve --width 00000000012|1 refused,NotBuilt;\n\
-solve --|1 refused,NotBuilt;\n\
-solve --width 5 --|1 refused,NotBuilt;\n\
+solve --width=5|1 refused,NoSolid;|5:\n\
+solve --width 1000000000 --grade 0 --sweeps=10000|1 refused,NoSolid;|5:\n\
+solve --width 00000000012|1 refused,NoSolid;|5:\n\
+solve --|1 refused,NoSolid;|5:\n\
+solve --width 5 --|1 refused,NoSolid;|5:\n\
 check --|0 accepted,inside,2702702702702700,2702702702702704;end;\n\
 report --|7 refused,NotFormat,record 1;|1:bundle,2\n\
 uvalue --|0 end;\n\

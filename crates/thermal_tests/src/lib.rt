@@ -21,4 +21,6 @@ mod repairs;
 #[cfg(test)]
 mod reports;
 #[cfg(test)]
+mod solving;
+#[cfg(test)]
 mod walls;
