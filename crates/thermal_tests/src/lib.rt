@@ -7,6 +7,8 @@ mod bundles;
 #[cfg(test)]
 mod commands;
 #[cfg(test)]
+mod cycle_moves;
+#[cfg(test)]
 mod demo;
 #[cfg(test)]
 mod ends;
