@@ -1,5 +1,5 @@
 -- Sessions that are alike, and plain states.
-use Rattle.std.proofs.Common.{◌≡◌, ◌∙◌, refl, sym, subst, arith, add-one, ℕ, zero, suc, ◌+◌, ◌≤◌, ◌-◌, Bool}
+use Rattle.std.proofs.Common.{◌≡◌, ◌∙◌, ap, refl, sym, subst, arith, add-one, ℕ, zero, suc, ◌+◌, ◌≤◌, ◌-◌, Bool}
 use Rattle.tb_detail.specs.declared.Detail.{Detail}
 use Rattle.tb_grid.specs.Grid.{Axes}
 use Rattle.tb_geometry.specs.declared.case.Case.{Case}
@@ -9,6 +9,8 @@ use Rattle.tb_model.specs.Mesh.{Mesh}
 use Rattle.tb_model.specs.Values.{case_of}
 use Rattle.tb_weighted.specs.Moves.{State}
 use Rattle.tb_moves.specs.Moves.{IsPlain, IsPlainPass}
+use Rattle.tb_trees.specs.Bodies.{BodyOnGrid}
+use Rattle.tb_rounds.specs.Rounds.{site_of}
 use Rattle.tb_moves.specs.Sessions.{AreAlike, Session, inside_of, mesh_of, state_of}
 
 pub still_alike : (r s t : Session) → AreAlike r s → AreAlike s t → AreAlike r t
@@ -46,3 +48,10 @@ no_more r s t n k told l a p h e =
     (in_place (λ d g c. IsPlainPass (mesh_on d g) (case_of c.mask) (state_of s) (state_of s) told) r s a
     (subst (λ (x : Session). IsPlainPass (mesh_of s) (inside_of s) (state_of s) (state_of x) told) e h))
     n k (n - k) (omega arith) p)
+
+same_site : (r s : Session) → AreAlike r s → site_of s ≡ site_of r
+same_site r s a = ap (λ (d : Detail). record { body = d; grid = s.grid }) a.body ∙ ap (λ (g : Axes). record { body = r.body; grid = g }) a.grid
+
+-- what rounds work on was made for each session that is alike
+pub made_for : (r s : Session) (b c : BodyOnGrid) → b ≡ site_of r → AreAlike r s → c ≡ b → c ≡ site_of s
+made_for r s b c made a same = same ∙ (made ∙ sym (same_site r s a))

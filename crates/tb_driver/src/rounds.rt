@@ -57,9 +57,11 @@ fn make_round(session: &mut Session, work: &mut CgWork, promises: &mut Promises)
     }
 }
 
-// Whether no kind of round gains any more.
-fn are_spent(promises: Promises) -> bool {
-    promises.field <= 0 && promises.flux <= 0
+// Whether no round is wanted: whether the interval is narrow enough, or no kind of round gains any more.
+fn is_over(session: &Session, promises: Promises, width: u64) -> bool
+    requires { width ≤ 10 ^ 9 }
+{
+    is_reached(session.interval(), width) || (promises.field <= 0 && promises.flux <= 0)
 }
 
 // Makes a series of rounds, and says whether another is worth it: whether the interval is still too wide, and the series
@@ -77,13 +79,30 @@ fn make_series(
 {
     let before = present_width(session);
     for _round in 0..SERIES {
-        if is_reached(session.interval(), width) || are_spent(*promises) {
+        if is_over(session, *promises, width) {
             return false;
         }
         make_round(session, work, promises);
     }
     let after = present_width(session);
     gain(before, after) >= after / 1_024
+}
+
+// Makes series until none is worth it.
+fn make_all(session: &mut Session, work: &mut CgWork, width: u64)
+    requires made { work.old ≡ site_of session.old }
+    requires width { width ≤ 10 ^ 9 }
+    ensures { AreAlike session.old session.new }
+{
+    let mut promises = Promises {
+        field: i128::MAX,
+        flux: i128::MAX,
+    };
+    for _series in 0..MOST_SERIES {
+        if !make_series(session, work, &mut promises, width) {
+            return;
+        }
+    }
 }
 
 /// Makes rounds, at most 2,000, until the interval is at most so wide, in µW/K, or neither kind gains, or the last 16 gained
@@ -96,14 +115,7 @@ pub fn make_rounds(alloc: Global, session: &mut Session, width: u64) -> Result<(
     ensures { AreAlike session.old session.new }
 {
     let mut work = CgWork::new(alloc, session)?;
-    let mut promises = Promises {
-        field: i128::MAX,
-        flux: i128::MAX,
-    };
-    for _series in 0..MOST_SERIES {
-        if !make_series(session, &mut work, &mut promises, width) {
-            break;
-        }
-    }
+    make_all(session, &mut work, width);
+    drop(work);
     Ok(())
 }
