@@ -4,7 +4,6 @@ use Rattle.std.specs.Prelude.{nat_le, nat_lt, sum_by}
 use Rattle.std.proofs.lemmas.Bool.{eqb-true, leb-true, ltb-true, false≢true}
 use Rattle.tb_places.specs.declared.AxisName.TheVariants.{X, Y, Z}
 use Rattle.tb_places.specs.Places.{IsCell, cell_count, place_at}
-use Rattle.tb_places.specs.Lines.{with_line}
 use Rattle.tb_detail.specs.declared.Content.{Content}
 use Rattle.tb_detail.specs.declared.Content.TheVariants.{Air, Solid}
 use Rattle.tb_grid.specs.Grid.{most_cells}
@@ -32,7 +31,7 @@ has_solid (suc n) some =
     any_right IsSolidBox (storeys n) (storey (30000 * n)) (1, box, omega arith, refl, record { material = 0; fills = refl })
 
 few_cells : (n : ℕ) → 1 ≤ n → n ≤ 16 → HasFewCells (section n)
-unfolding base_lines with_line
+unfolding base_lines
 few_cells n some few =
     leb-true (cell_count (base_counts (storeys n))) most_cells
     (each_number (λ k. nat_le (cell_count (base_counts (storeys k))) most_cells) refl n some few)
@@ -66,7 +65,7 @@ is_some_cell : (n : ℕ) → Bool
 is_some_cell n = nat_lt 0 (base_counts (storeys n) X) && nat_lt 0 (base_counts (storeys n) Y) && nat_lt 0 (base_counts (storeys n) Z)
 
 first_cell : (n : ℕ) → 1 ≤ n → n ≤ 16 → IsCell (base_counts (storeys n)) (place_at 0 0 0)
-unfolding is_some_cell base_lines with_line
+unfolding is_some_cell base_lines
 first_cell n some few =
     let all = each_number is_some_cell refl n some few in
     let two = both_true (nat_lt 0 (base_counts (storeys n) X) && nat_lt 0 (base_counts (storeys n) Y)) (nat_lt 0 (base_counts (storeys n) Z)) all in
@@ -74,7 +73,7 @@ first_cell n some few =
     (ltb-true 0 (base_counts (storeys n) X) one.0, ltb-true 0 (base_counts (storeys n) Y) one.1, ltb-true 0 (base_counts (storeys n) Z) two.1)
 
 first_is_air : (n : ℕ) → 1 ≤ n → n ≤ 16 → is_air ((base_mesh (section n)).occupant 0 0 0) ≡ true
-unfolding is_air base_lines with_line
+unfolding is_air base_lines
 first_is_air n some few = each_number (λ k. is_air ((base_mesh (section k)).occupant 0 0 0)) refl n some few
 
 pub section_accepted : (n : ℕ) → 1 ≤ n → n ≤ 16 → IsAccepted (section n)

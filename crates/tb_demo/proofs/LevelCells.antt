@@ -4,7 +4,6 @@ use Rattle.std.proofs.lemmas.Bool.{eqb-true}
 use Rattle.tb_places.specs.declared.AxisName.{AxisName}
 use Rattle.tb_places.specs.declared.AxisName.TheVariants.{X, Y, Z}
 use Rattle.tb_places.specs.Places.{cell_count}
-use Rattle.tb_places.specs.Lines.{with_line}
 use Rattle.tb_grid.specs.Axis.{IsAxis}
 use Rattle.tb_grid.specs.Grid.{Axes, counts_of, lines_of}
 use Rattle.tb_grid.specs.Levels.{IsLevelOf}
@@ -34,15 +33,15 @@ is_level n Z = level_lines 0 0 (base_lines Z (storeys n)) (base_rises Z (storeys
 
 -- 20 cells along x, 12 a storey along y, one along z
 x_lines : (n : ℕ) → 1 ≤ n → n ≤ 16 → length (lines_along n X) ≡ 21
-unfolding base_lines with_line
+unfolding base_lines
 x_lines n some few = eqb-true (length (lines_along n X)) 21 (each_number (λ k. length (lines_along k X) == 21) refl n some few)
 
 y_lines : (n : ℕ) → 1 ≤ n → n ≤ 16 → length (lines_along n Y) ≡ 12 * n + 1
-unfolding base_lines with_line
+unfolding base_lines
 y_lines n some few = eqb-true (length (lines_along n Y)) (12 * n + 1) (each_number (λ k. length (lines_along k Y) == 12 * k + 1) refl n some few)
 
 z_lines : (n : ℕ) → 1 ≤ n → n ≤ 16 → length (lines_along n Z) ≡ 2
-unfolding base_lines with_line
+unfolding base_lines
 z_lines n some few = eqb-true (length (lines_along n Z)) 2 (each_number (λ k. length (lines_along k Z) == 2) refl n some few)
 
 are_axes : (n : ℕ) → 1 ≤ n → n ≤ 16 → (a : AxisName) → IsAxis (lines_of (level n) a)
