@@ -15,8 +15,7 @@ const STRIP: &str = "detail,1,2\nenv,inside\nenv,outside\nmat,wall,1\nsolid,wall
 air,outside,0.04,0,0.1,0,0.1\nair,inside,0.13,200.1,200.2,0,0.1\n";
 
 // The outer corner of a wall of masonry with insulation on its outside.
-const CORNER: &str =
-    "detail,1,2\nenv,inside\nenv,outside\nmat,masonry,0.6\nmat,insulation,0.04\n\
+const CORNER: &str = "detail,1,2\nenv,inside\nenv,outside\nmat,masonry,0.6\nmat,insulation,0.04\n\
 air,outside,0.04,0,0.1,0,1300.1\nair,outside,0.04,0.1,1300.1,0,0.1\n\
 solid,insulation,0.1,100.1,0.1,1300.1\nsolid,insulation,100.1,1300.1,0.1,100.1\n\
 solid,masonry,100.1,300.1,100.1,1300.1\nsolid,masonry,300.1,1300.1,100.1,300.1\n\
@@ -93,7 +92,8 @@ fn a_wall_that_misses_its_width_is_settled(rt: HostRuntime) -> Result<(), Fail> 
     let alloc = rt.alloc();
     let found = solved(alloc, "solve --width 0 --grade 0 --halve 0", WALL)?;
     assert!(rt; found.starts_with(b"6 bundle,1\n"));
-    let lines = "case,inside\nx,0,0.1,200.1,200.2\ny,0,1000\nz,0,1000\nfx,0,2702734053,2702734053,0\nverdict,grid,0\nend";
+    let lines =
+        "case,inside\nx,0,0.1,200.1,200.2\ny,0,1000\nz,0,1000\nfx,0,2702734053,2702734053,0\nverdict,grid,0\nend";
     assert!(rt; has_lines(found.as_slice(), lines));
     let (lo, hi) = ends(found.as_slice()).ok_or("no interval")?;
     assert!(rt; lo == 2_702_702_702_339_050);
@@ -137,7 +137,8 @@ fn three_environments_are_three_cases(rt: HostRuntime) -> Result<(), Fail> {
     let alloc = rt.alloc();
     let found = solved(alloc, "solve --grade 0", STAIR)?;
     assert!(rt; found.starts_with(b"0 bundle,1\n"));
-    let lines = "case,room\nverdict,done,10000\ncase,stair\ninterval,0,0\nverdict,done,10000\ncase,outside\nverdict,done,10000\nend";
+    let lines =
+        "case,room\nverdict,done,10000\ncase,stair\ninterval,0,0\nverdict,done,10000\ncase,outside\nverdict,done,10000\nend";
     assert!(rt; has_lines(found.as_slice(), lines));
     let accepted = checked(alloc, found.as_slice())?;
     assert!(rt; accepted.starts_with(b"0 accepted,room,"));
