@@ -23,6 +23,8 @@ mod repairs;
 #[cfg(test)]
 mod reports;
 #[cfg(test)]
+mod sessions;
+#[cfg(test)]
 mod solving;
 #[cfg(test)]
 mod walls;
