@@ -1,11 +1,13 @@
 -- What a run tells: which text and which status belong to its words and to the bytes of its source.
-use Rattle.std.specs.Prelude.{◌≡◌, ◌≤◌, ◌+◌, ◌⊎◌, ℕ, List, Option, Ok, length, codes}
+use Rattle.std.specs.Prelude.{◌≡◌, ◌≤◌, ◌+◌, ◌⊎◌, ◌++◌, ℕ, List, Option, Ok, length, take, codes}
 use Rattle.tb_outside.specs.Faults.{Rose, Stands}
 use Rattle.tb_outside.specs.Limits.{most_input_bytes}
 use Rattle.tb_outside.specs.Outside.{Adds, IsAtEnd, Takes, TakesAtMost, TakesExactly, WritesFront}
 use Rattle.thermal_cli.specs.declared.answer.Answer.{Answer}
 use Rattle.tb_bundle.specs.declared.bundle.Bundle.{Bundle}
 use Rattle.tb_bundle_text.specs.Canonical.{bundle_text}
+use Rattle.tb_checker.specs.Lines.{HasCertifiedLines}
+use Rattle.tb_checker.specs.Texts.{accepted_text}
 use Rattle.tb_detail.specs.declared.Detail.{Detail}
 use Rattle.tb_options.specs.declared.SolveOptions.{SolveOptions}
 use Rattle.thermal_cli.specs.declared.check.CheckAnswer.TheVariants.{Accepted}
@@ -81,6 +83,15 @@ IsAnswered words left_old left_new holds_old holds_new s =
 abbrev pub TellsAccepted : (left_old left_new holds_old holds_new : Option (List ℕ)) → Type 0
 TellsAccepted left_old left_new holds_old holds_new =
     (bytes : List ℕ) × IsRead left_old left_new bytes × (b : Bundle) × CheckAnswers bytes (Accepted b) × Adds holds_old holds_new (check_text (Accepted b))
+
+-- A front was written of a line that refuses. Or the source was read to its end, `check` accepts its bytes as a bundle, and a front
+-- of the intervals that it thereby certifies was written: each line that stands whole in it tells the certified interval of a case,
+-- or ends the list
+abbrev pub WritesCertifiedFront : (left_old left_new holds_old holds_new : Option (List ℕ)) → Type 0
+WritesCertifiedFront left_old left_new holds_old holds_new =
+    ((line : List ℕ) × WritesFront holds_old holds_new (codes "refused," ++ line))
+    ⊎ ((bytes : List ℕ) × IsRead left_old left_new bytes × (b : Bundle) × Accepts bytes b
+    × (n : ℕ) × (n ≤ length (accepted_text b)) × HasCertifiedLines b (take n (accepted_text b)) × Adds holds_old holds_new (take n (accepted_text b)))
 
 -- the source was read to its end, `check` accepts its bytes as a bundle, and its report was written, of which all figures
 -- are sound

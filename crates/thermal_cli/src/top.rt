@@ -4,7 +4,7 @@ ghost use Rattle.tb_options.specs.declared.SolveOptions.{SolveOptions};
 ghost use Rattle.tb_outside.specs.Faults.{Rose, Stands};
 ghost use Rattle.tb_outside.specs.Limits.{most_input_bytes};
 ghost use Rattle.tb_outside.specs.Outside.{Adds, TakesExactly};
-ghost use Rattle.thermal_cli.specs.Outcome.{IsAnswered, IsInterrupted, IsOutcome, NamesSolve, Runs, TellsAccepted, TellsOf, TellsReport, TellsSolved, WritesFrontOfOne};
+ghost use Rattle.thermal_cli.specs.Outcome.{IsAnswered, IsInterrupted, IsOutcome, NamesSolve, Runs, TellsAccepted, TellsOf, TellsReport, TellsSolved, WritesCertifiedFront, WritesFrontOfOne};
 ghost use Rattle.thermal_cli.specs.Words.{HasReading, Names};
 ghost use Rattle.thermal_cli.specs.declared.words.Command.{Command};
 
@@ -98,9 +98,16 @@ pub fn run<S: Source, K: Sink>(
     ensures certified { result ≡ Status.Fine → Names (map string_bytes words.now) Command.Check
         → TellsAccepted (S.left source.old) (S.left source.new) (K.holds sink.old) (K.holds sink.new) }
 
-    // So are those of a report; the coupling coefficients, Ψ and χ that are made of them are sound too.
+    // So are those of a report; the coupling coefficients, Ψ and χ that are made of them are sound too, and the interval of each
+    // U-value holds the transmittance by ISO 6946.
     ensures reported { result ≡ Status.Fine → Names (map string_bytes words.now) Command.Report
         → TellsReport (S.left source.old) (S.left source.new) (K.holds sink.old) (K.holds sink.new) }
+
+    // Where the sink fails while `check` tells its answer, a front was written of a line that begins with `refused,`, or of the
+    // intervals of a bundle that `check` accepts: each line of them that stands whole tells the interval of a certified case, or
+    // ends the list.
+    ensures certified_front { result ≡ Status.SinkFault → Names (map string_bytes words.now) Command.Check
+        → WritesCertifiedFront (S.left source.old) (S.left source.new) (K.holds sink.old) (K.holds sink.new) }
 
     // The bundle that `solve` writes is of the detail that was read: all its cases in order, each on the level grid that the
     // options say, with a solution for the width and the passes that they say. Each interval is that of the field and of the

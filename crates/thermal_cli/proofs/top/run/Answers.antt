@@ -6,6 +6,7 @@ use Rattle.thermal_cli.specs.declared.status.Status.TheVariants as status
 use Rattle.thermal_cli.specs.declared.words.Command.{Command}
 use Rattle.thermal_cli.specs.Outcome.{IsInterrupted, Runs, TellsOf}
 use Rattle.thermal_cli.specs.Words.{HasReading, Names}
+use Rattle.thermal_cli.proofs.Fronts.{certified_front}
 use Rattle.thermal_cli.proofs.Runs.{answered, certificate_refused, certified, fine, no_memory, no_reading, refused, reported, sink_fault, sink_faults_told, source_fault, source_faults_told, solved, too_long, usage_words, width_not_reached}
 use Rattle.thermal_cli.proofs.top.run.Goals as goal
 
@@ -40,6 +41,7 @@ returns g c =
       fine = λ p. fine left f holds e w a b k l s p r;
       certified = λ p q. certified left f holds e w a b k l s p q r;
       reported = λ p q. reported left f holds e w a b k l s p q r;
+      certified_front = λ p q. certified_front left f w a b (holds k) (holds l) q (sink_fault left f holds e w a b k l s p r).1;
       solved = λ p o q. solved left f holds e w a b k l s p o q r;
       width_not_reached = λ p. width_not_reached left f holds e w a b k l s p r;
       certificate_refused = λ p. certificate_refused left f holds e w a b k l s p r;
