@@ -16,7 +16,7 @@ pub struct Coupling {
     ghost not_negative: { pos 0 ≤ℤ value },
 }
 
-const MOST_ENTRY: i128 = 1 << 53;
+const MOST_ENTRY: i64 = 1 << 53;
 
 const MOST_COUPLING: i64 = 1 << 57;
 
@@ -28,12 +28,23 @@ impl Entry {
     pub fn new(value: i128) -> Option<Entry>
         ensures { IsSome result ↔ (unsigned_abs value ≤ 2 ^ 53) }
     {
-        if value < -MOST_ENTRY || value > MOST_ENTRY {
+        if value < -i128::from(MOST_ENTRY) || value > i128::from(MOST_ENTRY) {
             return None;
         }
         Some(Entry {
             value: value as i64,
         })
+    }
+
+    /// The value of one word, if it has at most 53 bits.
+    #[inline(always)]
+    pub(crate) fn in_word(value: i64) -> Option<Entry>
+        ensures { IsSome result ↔ (unsigned_abs value ≤ 2 ^ 53) }
+    {
+        if value < -MOST_ENTRY || value > MOST_ENTRY {
+            return None;
+        }
+        Some(Entry { value })
     }
 
     /// The value.

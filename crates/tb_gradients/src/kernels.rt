@@ -2,7 +2,7 @@
 ghost use Rattle.std.specs.Prelude.{◌≡◌, ◌^◌, ◌≤◌, ◌*◌, length};
 
 use crate::entry::Entry;
-use crate::multiplier::Multiplier;
+use crate::multiplier::{Multiplier, PowerOfTwo};
 
 /// The scalar product.
 pub fn dot(a: &[Entry], b: &[Entry]) -> i128
@@ -21,7 +21,7 @@ pub fn multiply_by(a: &mut [Entry], multiplier: Multiplier) -> Option<i64> {
     let half = multiplier.half();
     let mut magnitude = 0;
     for i in 0..a.len() {
-        let entry = Entry::new(multiplier.times(a[i], half))?;
+        let entry = Entry::in_word(multiplier.times(a[i], half))?;
         magnitude |= entry.magnitude();
         a[i] = entry;
     }
@@ -35,7 +35,7 @@ pub fn add_multiple(a: &mut [Entry], multiplier: Multiplier, b: &[Entry]) -> Opt
     let half = multiplier.half();
     let mut magnitude = 0;
     for i in 0..a.len() {
-        let entry = Entry::new(i128::from(a[i].value()) + multiplier.times(b[i], half))?;
+        let entry = Entry::in_word(a[i].value() + multiplier.times(b[i], half))?;
         magnitude |= entry.magnitude();
         a[i] = entry;
     }
@@ -49,7 +49,7 @@ pub fn renew(a: &mut [Entry], multiplier: Multiplier, b: &[Entry]) -> Option<i64
     let half = multiplier.half();
     let mut magnitude = 0;
     for i in 0..a.len() {
-        let entry = Entry::new(i128::from(b[i].value()) + multiplier.times(a[i], half))?;
+        let entry = Entry::in_word(b[i].value() + multiplier.times(a[i], half))?;
         magnitude |= entry.magnitude();
         a[i] = entry;
     }
@@ -60,7 +60,7 @@ pub fn renew(a: &mut [Entry], multiplier: Multiplier, b: &[Entry]) -> Option<i64
 /// doesn't fit.
 pub fn reduce(
     a: &mut [Entry],
-    whole: Multiplier,
+    whole: PowerOfTwo,
     multiplier: Multiplier,
     b: &[Entry],
 ) -> Option<i64>
@@ -69,7 +69,11 @@ pub fn reduce(
     let half = multiplier.half();
     let mut magnitude = 0;
     for i in 0..a.len() {
-        let entry = Entry::new(whole.whole(a[i]) - multiplier.times(b[i], half))?;
+        let entry = Entry::in_word(
+            whole
+                .times_in_word(a[i])?
+                .checked_sub(multiplier.times(b[i], half))?,
+        )?;
         magnitude |= entry.magnitude();
         a[i] = entry;
     }

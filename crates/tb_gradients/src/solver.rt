@@ -6,7 +6,7 @@ use crate::dyadic::{Dyadic, bit_length};
 use crate::entry::Entry;
 use crate::layout::Layout;
 use crate::matrix::Matrix;
-use crate::multiplier::Multiplier;
+use crate::multiplier::PowerOfTwo;
 use crate::stencil::{Stencil, multiply};
 use crate::sweep::{backward, forward};
 use crate::vector::Vector;
@@ -58,7 +58,7 @@ fn precondition(stencil: Stencil, r: &Vector, s: &mut Vector) -> Option<()>
 {
     let mut exponent = s.settled();
     for _ in 0..10 {
-        let scale = Multiplier::power_of_two(r.exponent.saturating_sub(exponent))?;
+        let scale = PowerOfTwo::new(r.exponent.saturating_sub(exponent))?;
         let entries = s.entries.as_mut_slice();
         let magnitude = match forward(stencil, r.entries.as_slice(), scale, entries) {
             Some(()) => backward(stencil, entries),

@@ -3,7 +3,7 @@ ghost use Rattle.std.specs.Prelude.{◌≡◌, ◌^◌, ◌<◌, ◌≤◌, ◌+
 ghost use Rattle.tb_gradients.specs.Layouts.{places_of};
 
 use crate::entry::Entry;
-use crate::multiplier::Multiplier;
+use crate::multiplier::PowerOfTwo;
 use crate::stencil::{Span, Stencil, is_within};
 
 // The first half over a span, from its first point to its last.
@@ -11,7 +11,7 @@ fn forward_span(
     stencil: Stencil,
     span: Span,
     r: &[Entry],
-    scale: Multiplier,
+    scale: PowerOfTwo,
     s: &mut [Entry],
 ) -> Option<()>
     requires after { stencil.layout.layer ≤ span.first }
@@ -30,17 +30,17 @@ fn forward_span(
     let row = layout.row();
     let layer = layout.layer();
     for at in span.first as usize..span.last as usize {
-        let sum = scale.whole(r[at])
+        let sum = scale.times(r[at])
             + z[at].times(s[at - layer])
             + y[at].times(s[at - row])
             + x[at].times(s[at - 1]);
-        s[at] = Entry::new(i128::from(pivots[at].quotient(sum)?))?;
+        s[at] = Entry::in_word(pivots[at].quotient(sum)?)?;
     }
     Some(())
 }
 
 /// The first half of the division, from the first point to the last. None where an entry doesn't fit.
-pub fn forward(stencil: Stencil, r: &[Entry], scale: Multiplier, s: &mut [Entry]) -> Option<()>
+pub fn forward(stencil: Stencil, r: &[Entry], scale: PowerOfTwo, s: &mut [Entry]) -> Option<()>
     requires r { length r.now ≡ places_of stencil.layout }
     requires s { length s.old ≡ places_of stencil.layout }
 {
@@ -76,7 +76,7 @@ fn backward_span(stencil: Stencil, span: Span, s: &mut [Entry]) -> Option<i64>
             + y[at + row].times(s[at + row])
             + x[at + 1].times(s[at + 1]);
         let quotient = pivots[at].quotient(sum)?;
-        let entry = Entry::new(i128::from(s[at].value()) + i128::from(quotient))?;
+        let entry = Entry::in_word(s[at].value().checked_add(quotient)?)?;
         magnitude |= entry.magnitude();
         s[at] = entry;
     }

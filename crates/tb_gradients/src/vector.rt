@@ -4,7 +4,7 @@ ghost use Rattle.std.specs.Prelude.{◌≡◌, ◌^◌, ◌≤◌, ◌*◌, leng
 use crate::dyadic::{Dyadic, bit_length};
 use crate::entry::Entry;
 use crate::kernels::{add_multiple, dot, multiply_by, reduce, renew};
-use crate::multiplier::Multiplier;
+use crate::multiplier::{Multiplier, PowerOfTwo};
 use std::alloc::{AllocError, Global};
 
 /// A vector: its entries, each times `2^exponent`.
@@ -170,7 +170,7 @@ impl Vector {
             return Some(());
         }
         let doublings = 50i32.saturating_sub(bits);
-        let multiplier = Multiplier::power_of_two(doublings)?;
+        let multiplier = PowerOfTwo::new(doublings)?.multiplier()?;
         self.magnitude = multiply_by(self.entries.as_mut_slice(), multiplier)?;
         self.exponent = self.exponent.saturating_sub(doublings);
         Some(())
@@ -203,7 +203,7 @@ impl Vector {
     {
         let exponent = self.common_exponent(ratio, other);
         self.raise(exponent)?;
-        let whole = Multiplier::power_of_two(self.exponent.saturating_sub(exponent))?;
+        let whole = PowerOfTwo::new(self.exponent.saturating_sub(exponent))?;
         let multiplier = ratio.multiplier(other.exponent, exponent)?;
         self.magnitude = reduce(
             self.entries.as_mut_slice(),
