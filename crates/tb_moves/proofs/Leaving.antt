@@ -35,11 +35,11 @@ module _ (m : Mesh) (inside : Case) (filled : IsFilled m) where
       let kept = by_moves m inside filled (move ∷ []) old new told (All-cons (costs.HasMove m.cells) move [] has (All-nil (costs.HasMove m.cells))) (alone State weighted.Move (weighted.IsMove m inside) move old new told made here) h in
       record { admissible = kept.admissible; field = kept.field; flux = kept.flux }
 
-  one : (move : Move) (old new : State) (told : Bool) → HasMove m move → IsMove m inside move old new → (IsTrue told ↔ (new ≢ old)) → IsAdmissible m inside old → RaisesNothing m inside old new
-  one (Node n) old new told has (step, rest) here h = passing (of_node (node_place m.cells n.0)) old new told (node_place_within m.cells n.0 has)
+  pub move_leaves : (move : Move) (old new : State) (told : Bool) → HasMove m move → IsMove m inside move old new → (IsTrue told ↔ (new ≢ old)) → IsAdmissible m inside old → RaisesNothing m inside old new
+  move_leaves (Node n) old new told has (step, rest) here h = passing (of_node (node_place m.cells n.0)) old new told (node_place_within m.cells n.0 has)
       (subst (λ (k : ℕ). IsNodeMove m inside k old.field new.field) (sym (node_number_of_place m.cells n.0)) step, rest) here h
-  one (Loop e) old new told has made here h = passing (of_loop e.0 (edge_place m.cells e.0 e.1)) old new told has.1 made here h
-  one (Cycle f) old new told has (step, rest) here h = record {
+  move_leaves (Loop e) old new told has made here h = passing (of_loop e.0 (edge_place m.cells e.0 e.1)) old new told has.1 made here h
+  move_leaves (Cycle f) old new told has (step, rest) here h = record {
     admissible = subst (λ (v : List ℤ). IsAdmissible m inside (state v new.flux)) (sym rest) (cycle_admissible m inside old.field f.0 old.flux new.flux step h);
     field = subst (λ (v : List ℤ). weighted_field m inside (field_of m.cells v) ≤ℤ weighted_field m inside (field_of m.cells old.field)) (sym rest) (int_refl (weighted_field m inside (field_of m.cells old.field)));
     flux = lowers m inside f.0 old.flux new.flux step h.flux;
@@ -52,7 +52,7 @@ module _ (m : Mesh) (inside : Case) (filled : IsFilled m) where
   pub list_leaves : (moves : List Move) (old new : State) (told : Bool) → All (HasMove m) moves → AreMoves m inside moves old new told → IsAdmissible m inside old → RaisesNothing m inside old new
   list_leaves [] old new told all (same, none) h = nothing old new same h
   list_leaves (move ∷ moves) old new told all made h =
-      let first = one move old made.mid made.told_here (all 0 move (omega arith)) made.step made.here h in
+      let first = move_leaves move old made.mid made.told_here (all 0 move (omega arith)) made.step made.here h in
       let after = list_leaves moves made.mid new made.told_after (λ i d l. all (suc i) d (omega (arith, l))) made.after first.admissible in
       record { admissible = after.admissible; field = int_trans _ _ _ after.field first.field; flux = int_trans _ _ _ after.flux first.flux }
 

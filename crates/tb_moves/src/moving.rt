@@ -86,8 +86,8 @@ impl Session<'_> {
         changed
     }
 
-    /// Makes a move, and says whether the state changed.
-    pub fn apply(&mut self, wanted: Move) -> bool
+    // Makes a move, and says whether the state changed.
+    fn make(&mut self, wanted: Move) -> bool
         requires { HasMove (mesh_of self.old) wanted }
         ensures moved { IsMove (mesh_of self.old) (inside_of self.old) wanted (state_of self.old) (state_of self.new) }
         ensures told { IsTrue result ↔ (self.new ≢ self.old) }
@@ -108,6 +108,19 @@ impl Session<'_> {
         ensures state { IsAdmissible (mesh_of self.now) (inside_of self.now) (state_of self.now) }
     {
         let _ = &self.setting;
+    }
+
+    /// Makes a move, and says whether the state changed.
+    pub fn apply(&mut self, wanted: Move) -> bool
+        requires { HasMove (mesh_of self.old) wanted }
+        ensures moved { IsMove (mesh_of self.old) (inside_of self.old) wanted (state_of self.old) (state_of self.new) }
+        ensures leaves { RaisesNothing (mesh_of self.old) (inside_of self.old) (state_of self.old) (state_of self.new) }
+        ensures told { IsTrue result ↔ (self.new ≢ self.old) }
+        ensures stays { IsFalse result → self.new ≡ self.old }
+        ensures alike { AreAlike self.old self.new }
+    {
+        self.keeps_state();
+        self.make(wanted)
     }
 
     /// Makes the moves of a list in their order, and says whether one of them changed the state.
