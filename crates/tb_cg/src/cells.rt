@@ -72,10 +72,24 @@ impl Cells<'_> {
     }
 
     /// What fills the cell at a place, where there is one.
+    #[inline(always)]
     pub fn filling(self, place: Place) -> Option<Filling> {
-        let i = self.x.bases.get(place.i as usize).copied()?;
-        let j = self.y.bases.get(place.j as usize).copied()?;
-        let k = self.z.bases.get(place.k as usize).copied()?;
+        self.filling_of(
+            self.x.bases.get(place.i as usize).copied(),
+            self.y.bases.get(place.j as usize).copied(),
+            self.z.bases.get(place.k as usize).copied(),
+        )
+    }
+
+    // What fills the cells in these intervals of the coarser grid, where there are all three.
+    #[inline(always)]
+    pub(crate) fn filling_of(
+        self,
+        i: Option<u32>,
+        j: Option<u32>,
+        k: Option<u32>,
+    ) -> Option<Filling> {
+        let (i, j, k) = (i?, j?, k?);
         let row = u64::from(j).saturating_add(u64::from(self.base.y).saturating_mul(u64::from(k)));
         let number = u64::from(i).saturating_add(u64::from(self.base.x).saturating_mul(row));
         self.fillings.get(number as usize).copied()
@@ -102,28 +116,56 @@ impl Cells<'_> {
     /// What lies between the cell at a place and the next one along an axis.
     pub fn link(self, axis: AxisName, place: Place) -> Option<Link> {
         let above = next(axis, place);
+        self.link_between(axis, place, self.filling(place)?, self.filling(above)?)
+    }
+
+    // What lies between the cell at a place and the next one along an axis, which are filled so.
+    pub(crate) fn link_between(
+        self,
+        axis: AxisName,
+        place: Place,
+        low: Filling,
+        high: Filling,
+    ) -> Option<Link> {
         let area = self.area(axis, place);
-        let (low, high) = (self.width(axis, place), self.width(axis, above));
-        match (self.filling(place)?, self.filling(above)?) {
+        match (low, high) {
             (Filling::Solid { lambda: first }, Filling::Solid { lambda: second }) => Some(
                 Link::Inner {
-                    conductance: Ratio::between(area, low, first, high, second),
+                    conductance: Ratio::between(
+                        area,
+                        self.width(axis, place),
+                        first,
+                        self.width(axis, next(axis, place)),
+                        second,
+                    ),
                 },
             ),
             (Filling::Solid { lambda }, Filling::Air { rs, is_warm }) => Some(Link::Surface {
-                conductance: Ratio::through_surface(area, low, lambda, rs),
+                conductance: Ratio::through_surface(area, self.width(axis, place), lambda, rs),
                 film: Ratio::film(area, rs),
                 is_warm,
                 low_is_air: false,
             }),
             (Filling::Air { rs, is_warm }, Filling::Solid { lambda }) => Some(Link::Surface {
-                conductance: Ratio::through_surface(area, high, lambda, rs),
+                conductance: Ratio::through_surface(
+                    area,
+                    self.width(axis, next(axis, place)),
+                    lambda,
+                    rs,
+                ),
                 film: Ratio::film(area, rs),
                 is_warm,
                 low_is_air: true,
             }),
             (Filling::Air { .. }, Filling::Air { .. }) => None,
         }
+    }
+
+    // The conductance of the surface between the cell at a place and the next one along an axis, and whether its environment
+    // is at 1, where there is one.
+    pub(crate) fn film(self, axis: AxisName, place: Place) -> Option<(Ratio, bool)> {
+        let (rs, is_warm) = self.surface(axis, place)?;
+        Some((Ratio::film(self.area(axis, place), rs), is_warm))
     }
 }
 

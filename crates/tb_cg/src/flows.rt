@@ -4,7 +4,7 @@ ghost use Rattle.tb_cg.specs.Limits.{IsFlow};
 ghost use Rattle.tb_places.specs.Places.{IsCell};
 ghost use Rattle.tb_grid.specs.Views.{along_axes};
 
-use crate::cells::{AXES, Cells, Link, next};
+use crate::cells::{AXES, Cells, Filling, Link, next};
 use crate::points::Points;
 use crate::potential::potential;
 use tb_gradients::{Coupling, Entry, SOLUTION_EXPONENT};
@@ -58,12 +58,13 @@ fn seen(
     points: Points,
     axis: AxisName,
     place: Place,
+    filling: Filling,
     temperatures: &[Entry],
     present: &[i64],
 ) -> i64
     ensures { unsigned_abs result ≤ 2 ^ 54 }
 {
-    temperature(temperatures, points.at(place)) + potential(cells, present, axis, place)
+    temperature(temperatures, points.at(place)) + potential(cells, present, axis, place, filling)
 }
 
 // The flow from a cell to the next one along an axis.
@@ -78,19 +79,16 @@ fn flow_at(
 ) -> i64
     ensures { IsFlow result }
 {
-    let Some(link) = cells.link(axis, place) else {
+    let above = next(axis, place);
+    let (Some(first), Some(second)) = (cells.filling(place), cells.filling(above)) else {
+        return 0;
+    };
+    let Some(link) = cells.link_between(axis, place, first, second) else {
         return 0;
     };
     let (Link::Inner { conductance } | Link::Surface { conductance, .. }) = link;
-    let low = seen(cells, points, axis, place, temperatures, present);
-    let high = seen(
-        cells,
-        points,
-        axis,
-        next(axis, place),
-        temperatures,
-        present,
-    );
+    let low = seen(cells, points, axis, place, first, temperatures, present);
+    let high = seen(cells, points, axis, above, second, temperatures, present);
     flow(conductance.scaled(scale), low, high, scale)
 }
 

@@ -1,7 +1,7 @@
 // The exact form of trilinear fields: its product with a vector.
 ghost use Rattle.std.specs.Prelude.{◌≡◌, ◌^◌, ◌<◌, ◌≤◌, ◌+◌, length};
 
-use crate::cells::{AXES, Cells, Link, next};
+use crate::cells::{AXES, Cells, next};
 use crate::kernel::{CellForm, FaceForm, Reach, add_cell, add_face};
 use crate::points::Points;
 use crate::ratio::{Ratio, scale_for};
@@ -28,11 +28,12 @@ fn cell_weight(cells: Cells, axis: AxisName, place: Place, lambda: u32) -> Ratio
 // The greatest number of bits that a weight at a cell has.
 fn bits_at(cells: Cells, place: Place) -> i32 {
     let mut bits = i32::MIN;
+    let lambda = cells.conductivity(place);
     for axis in AXES {
-        if let Some(lambda) = cells.conductivity(place) {
+        if let Some(lambda) = lambda {
             bits = bits.max(cell_weight(cells, axis, place, lambda).bits());
         }
-        if let Some(Link::Surface { film, .. }) = cells.link(axis, place) {
+        if let Some((film, _is_warm)) = cells.film(axis, place) {
             bits = bits.max(film.bits());
         }
     }
@@ -100,9 +101,7 @@ fn face_form(
     place: Place,
     scale: i32,
 ) -> Option<FaceForm> {
-    let Some(Link::Surface { film, is_warm, .. }) = cells.link(axis, place) else {
-        return None;
-    };
+    let (film, is_warm) = cells.film(axis, place)?;
     let (second, third) = match axis {
         AxisName::X => (AxisName::Y, AxisName::Z),
         AxisName::Y => (AxisName::X, AxisName::Z),

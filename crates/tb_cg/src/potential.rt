@@ -42,22 +42,27 @@ fn bend(cells: Cells, axis: AxisName, place: Place, lambda: u32, low: i64, high:
         .clamp(-MOST, MOST)
 }
 
-/// What drives the flow from the cell at a place along an axis, beside its temperature: of air all of it, the level of its
-/// environment, and of a solid what the flux asks for. Times 2⁻⁵⁰.
-pub fn potential(cells: Cells, flows: &[i64], axis: AxisName, place: Place) -> i64
+/// What drives the flow along an axis from the cell at a place, which is filled so, beside its temperature: of air all of
+/// it, the level of its environment, and of a solid what the flux asks for. Times 2⁻⁵⁰.
+pub fn potential(cells: Cells, flows: &[i64], axis: AxisName, place: Place, filling: Filling) -> i64
+    ensures { unsigned_abs result ≤ 2 ^ 51 }
+{
+    match filling {
+        Filling::Solid { lambda } => bent(cells, flows, axis, place, lambda),
+        Filling::Air { is_warm: true, .. } => ONE,
+        Filling::Air { .. } => 0,
+    }
+}
+
+// What the flux asks for in a solid.
+fn bent(cells: Cells, flows: &[i64], axis: AxisName, place: Place, lambda: u32) -> i64
     ensures { unsigned_abs result ≤ 2 ^ 51 }
 {
     let counts = cells.counts;
-    if place.i >= counts.x || place.j >= counts.y || place.k >= counts.z {
+    if flows.is_empty() || place.i >= counts.x || place.j >= counts.y || place.k >= counts.z {
         return 0;
     }
-    match cells.filling(place) {
-        Some(Filling::Solid { lambda }) => {
-            let low = flow_at(flows, counts.low_face(axis, place));
-            let high = flow_at(flows, counts.high_face(axis, place));
-            bend(cells, axis, place, lambda, low, high)
-        }
-        Some(Filling::Air { is_warm: true, .. }) => ONE,
-        _ => 0,
-    }
+    let low = flow_at(flows, counts.low_face(axis, place));
+    let high = flow_at(flows, counts.high_face(axis, place));
+    bend(cells, axis, place, lambda, low, high)
 }

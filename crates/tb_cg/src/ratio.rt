@@ -17,12 +17,10 @@ impl Ratio {
     /// From the middle of a solid to the middle of another, through an area in 10⁻⁸ m²: their half widths in a row.
     pub fn between(area: u128, low: u64, first: u32, high: u64, second: u32) -> Ratio {
         let (first, second) = (u128::from(first), u128::from(second));
-        let low = u128::from(low).saturating_mul(second);
-        let high = u128::from(high).saturating_mul(first);
+        let low = u128::from(low) * second;
+        let high = u128::from(high) * first;
         Ratio {
-            over: area
-                .saturating_mul(first.saturating_mul(second))
-                .saturating_mul(2),
+            over: area.saturating_mul(first * second).saturating_mul(2),
             under: low.saturating_add(high),
         }
     }

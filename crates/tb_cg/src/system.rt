@@ -54,11 +54,14 @@ fn couple_at(
     solver: &mut Solver,
 ) -> Option<()> {
     let above = next(axis, place);
-    let Some(link) = cells.link(axis, place) else {
+    let (Some(first), Some(second)) = (cells.filling(place), cells.filling(above)) else {
         return Some(());
     };
-    let low = potential(cells, flows, axis, place);
-    let high = potential(cells, flows, axis, above);
+    let Some(link) = cells.link_between(axis, place, first, second) else {
+        return Some(());
+    };
+    let low = potential(cells, flows, axis, place, first);
+    let high = potential(cells, flows, axis, above, second);
     match link {
         Link::Inner { conductance } => {
             let coupling = conductance.scaled(scale);
