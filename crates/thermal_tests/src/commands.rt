@@ -138,7 +138,14 @@ report -h|2 refused,Usage;\n\
 reports|2 refused,Usage;\n\
 uvalues|2 refused,Usage;\n\
 solv|2 refused,Usage;\n\
-demo 1|2 refused,Usage;\n\
+demo|2 refused,Usage;\n\
+demo 0|2 refused,Usage;\n\
+demo 17|2 refused,Usage;\n\
+demo -1|2 refused,Usage;\n\
+demo 1 2|2 refused,Usage;\n\
+demo --width 5|2 refused,Usage;\n\
+demo --help|2 refused,Usage;\n\
+demos 1|2 refused,Usage;\n\
 --help|2 refused,Usage;";
 
 // What a run tells of words and these bytes into a sink with this room: the exit code, a space and the text. The words

@@ -27,7 +27,7 @@ solid,wall,0.1,200.1,0,1000,0,1000\nair,room,0.13,0,0.1,0,1000,0,1000\n\
 air,outside,0.04,200.1,200.2,0,1000,0,1000\nair,stair,0.13,200.2,200.3,0,1000,0,1000\n";
 
 // What stands behind the first place of these bytes in a text; nothing where they don't stand in it.
-fn behind<'a>(text: &'a [u8], part: &[u8]) -> &'a [u8] {
+pub(crate) fn behind<'a>(text: &'a [u8], part: &[u8]) -> &'a [u8] {
     for start in 0..text.len() {
         let rest = text.get(start..).unwrap_or(b"");
         if rest.starts_with(part) {
@@ -38,7 +38,7 @@ fn behind<'a>(text: &'a [u8], part: &[u8]) -> &'a [u8] {
 }
 
 // The bytes before the first of this kind.
-fn before(text: &[u8], end: u8) -> &[u8] {
+pub(crate) fn before(text: &[u8], end: u8) -> &[u8] {
     for (place, byte) in text.iter().enumerate() {
         if *byte == end {
             return text.get(..place).unwrap_or(b"");
@@ -76,7 +76,7 @@ fn is_accepted(alloc: Global, found: &[u8]) -> Result<bool, AllocError> {
 }
 
 // Whether these lines stand in a text, one behind the other.
-fn has_lines(text: &[u8], lines: &str) -> bool {
+pub(crate) fn has_lines(text: &[u8], lines: &str) -> bool {
     let mut rest = text;
     for line in lines.lines() {
         rest = behind(rest, line.as_bytes());
