@@ -4,21 +4,20 @@
 #     python3 second_order.py corner balcony reveal cellar fixing > expected/second-order
 #
 # For each detail, and each environment that is a case of its own, a line says the heat flow in W/K with this environment at 1
-# and the others at 0, twice: on a mesh, and on that mesh with each piece between two lines halved. The elements are quadrangles
-# and hexahedra with all products of squares. So the second number is at most the first, both are at least the heat flow that
-# finer meshes go towards, and how far the first fell is an estimate of how far the second is still above it. Then follow the
-# elements of the finer mesh. examples/run asks the second number of each interval, and doesn't run this.
+# and the others at 0, on two meshes. The elements are quadrangles and hexahedra with all products of squares. Both numbers are
+# at least the heat flow that finer meshes go towards, and how far the first is above the second is an estimate of how far the
+# second is above that. Then follow the elements of the second mesh. examples/run asks the second number of each interval, and
+# doesn't run this. On a busy machine the body took twenty minutes and 3 GB, each of the others one at the most.
 import csv
-import itertools
 import os
 import subprocess
 import sys
 import tempfile
 from figures import Detail, occupants, step, surfaces
 
-# The pieces at each end of an interval between two sides of boxes, in mm, and how much wider each next one is: by dimension.
-FIRST = {2: 0.1, 3: 10.0}
-GROWTH = {2: 1.6, 3: 4.0}
+# Two meshes by dimension: how wide the pieces at both ends of an interval between two sides of boxes are, in mm; how much wider
+# each next one is, towards the middle; and into how many parts each piece is cut.
+MESHES = {2: [(0.1, 1.6, 1), (0.1, 1.6, 2)], 3: [(10, 4, 1), (10, 4, 2)]}
 
 # The corners of an element from those of its low corner's place, as GetDP's meshes order them.
 CORNERS = {1: [(0,), (1,)], 2: [(0, 0), (1, 0), (1, 1), (0, 1)]}
@@ -53,31 +52,21 @@ def graded(width, first, growth):
     return [piece * scale for piece in pieces + pieces[::-1]]
 
 
-def lines(ends, first, growth):
+def lines(ends, first, growth, parts):
     found = [float(ends[0])]
     for low, high in zip(ends, ends[1:]):
-        for width in graded(float(high - low), first, growth)[:-1]:
+        widths = [piece / parts for piece in graded(float(high - low), first, growth) for _ in range(parts)]
+        for width in widths[:-1]:
             found.append(found[-1] + width)
         found.append(float(high))
     return found
 
 
-def halved(axis):
-    middles = [(low + high) / 2 for low, high in zip(axis, axis[1:])]
-    return sorted(axis + middles)
-
-
 # The three axes of a mesh. An axis that no box divides stays whole: the field is the same all along it.
-def mesh_lines(detail, is_halved):
+def mesh_lines(detail, number):
     ends = [sides(detail, axis) for axis in range(3)]
     dimension = sum(len(axis) > 2 for axis in ends)
-    found = []
-    for axis in ends:
-        if len(axis) > 2:
-            axis = lines(axis, FIRST[dimension], GROWTH[dimension])
-            axis = halved(axis) if is_halved else axis
-        found.append(axis)
-    return found
+    return [lines(axis, *MESHES[dimension][number]) if len(axis) > 2 else axis for axis in ends]
 
 
 # The solid elements of a mesh with their boxes, and the faces towards air, with the box of the air. An element is a list of
@@ -111,8 +100,8 @@ class Numbers(dict):
 
 
 class Mesh:
-    def __init__(self, detail, is_halved):
-        self.lines = mesh_lines(detail, is_halved)
+    def __init__(self, detail, number):
+        self.lines = mesh_lines(detail, number)
         self.axes = [axis for axis in range(3) if len(self.lines[axis]) > 2]
         self.solids, self.surfaces, self.nodes, self.elements = Numbers(), Numbers(), Numbers(), []
         cells = occupants(detail, self.lines)
@@ -213,9 +202,9 @@ def heat_flow(mesh, environment, directory):
         return float(text.read().split()[-1]) * mesh.depth()
 
 
-def heat_flows(detail, environments, is_halved):
+def heat_flows(detail, environments, number):
     with tempfile.TemporaryDirectory() as directory:
-        mesh = Mesh(detail, is_halved)
+        mesh = Mesh(detail, number)
         mesh.write(os.path.join(directory, "body.msh"))
         return mesh.size, [heat_flow(mesh, environment, directory) for environment in environments]
 
@@ -226,10 +215,10 @@ def cases(detail):
 
 
 if __name__ == "__main__":
-    print("# detail, environment, W/K on a mesh, W/K with each piece of it halved, elements of the halved one")
+    print("# detail, environment, W/K on a mesh, W/K on a finer one, elements of the finer one")
     for name in sys.argv[1:]:
         detail = read_detail(os.path.join(os.path.dirname(os.path.abspath(__file__)), f"{name}.detail"))
-        _, before = heat_flows(detail, cases(detail), False)
-        size, after = heat_flows(detail, cases(detail), True)
+        _, before = heat_flows(detail, cases(detail), 0)
+        size, after = heat_flows(detail, cases(detail), 1)
         for environment, coarse, fine in zip(cases(detail), before, after):
             print(f"{name},{environment},{coarse:.9f},{fine:.9f},{size}", flush=True)
