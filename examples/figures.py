@@ -246,4 +246,5 @@ def report(detail, cases):
     yield "end"
 
 
-sys.stdout.write("".join(line + "\n" for line in report(*read_bundle(sys.stdin))))
+if __name__ == "__main__":
+    sys.stdout.write("".join(line + "\n" for line in report(*read_bundle(sys.stdin))))

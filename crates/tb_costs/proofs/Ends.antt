@@ -48,6 +48,14 @@ module _ (d : Detail) (g : Axes) where
       → rounded_up (mesh_on d g) (flux_terms (mesh_on d g) (flux_on g s.flux)) ≤ℤ most_loss
   loss_fits inside s limits carries grid h = subst (λ (q : Flux). rounded_up (mesh_on d g) (flux_terms (mesh_on d g) q) ≤ℤ most_loss) (sym (same_flux s.flux)) (costs d g limits carries grid inside s.flux h.flux h.energy)
 
+  -- a flux within limits whose lower end isn't below 0 loses no more than an admissible one
+  pub loss_within : (inside : Case) (flows : List ℤ) → InLimits d → CarriesBody g d → IsGrid g → FitsFaces (counts_of g) flows → AreFlows flows → pos 0 ≤ℤ lower_end (mesh_on d g) inside (flux_on g flows)
+      → rounded_up (mesh_on d g) (flux_terms (mesh_on d g) (flux_on g flows)) ≤ℤ most_loss
+  loss_within inside flows limits carries grid fits small end =
+      let flux = is_flux flows fits small in
+      subst (λ (q : Flux). rounded_up (mesh_on d g) (flux_terms (mesh_on d g) q) ≤ℤ most_loss) (sym (same_flux flows))
+      (costs d g limits carries grid inside flows flux (energies d g limits carries grid inside flows flux (subst (λ (q : Flux). pos 0 ≤ℤ lower_end (mesh_on d g) inside q) (same_flux flows) end)))
+
   pub not_past_limit : (inside : Case) (s : State) → InLimits d → CarriesBody g d → IsGrid g → IsAdmissible (mesh_on d g) inside s
       → ¬ (pos (2 ^ 120) <ℤ rounded_up (mesh_on d g) (flux_terms (mesh_on d g) (flux_on g s.flux)))
   not_past_limit inside s limits carries grid h = below (rounded_up (mesh_on d g) (flux_terms (mesh_on d g) (flux_on g s.flux))) (loss_fits inside s limits carries grid h)

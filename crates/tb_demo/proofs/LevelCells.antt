@@ -1,14 +1,18 @@
 -- The level grid of the section.
-use Rattle.std.proofs.Common.{◌≡◌, ℕ, ◌+◌, ◌-◌, ◌*◌, ◌≤◌, ◌==◌, List, length, arith, refl}
+use Rattle.std.proofs.Common.{◌≡◌, ◌∙◌, ℕ, ◌+◌, ◌-◌, ◌*◌, ◌≤◌, ◌==◌, List, length, arith, refl, ap, subst}
 use Rattle.std.proofs.lemmas.Bool.{eqb-true}
 use Rattle.tb_places.specs.declared.AxisName.{AxisName}
 use Rattle.tb_places.specs.declared.AxisName.TheVariants.{X, Y, Z}
 use Rattle.tb_places.specs.Places.{cell_count}
+use Rattle.tb_detail.specs.declared.Detail.{Detail}
 use Rattle.tb_grid.specs.Axis.{IsAxis}
 use Rattle.tb_grid.specs.Grid.{Axes, counts_of, lines_of}
-use Rattle.tb_grid.specs.Levels.{IsLevelOf}
+use Rattle.tb_grid.specs.Levels.{IsLevelAxis, IsLevelOf, IsTooLarge}
+use Rattle.tb_grid.specs.declared.levels.Grading.{Grading}
+use Rattle.tb_grid.specs.declared.levels.GridTooLarge.{GridTooLarge}
+use Rattle.tb_grid.specs.declared.levels.GridTooLarge.TheVariants.{Lines, Cells}
 use Rattle.tb_grid.proofs.CutLines.{cut_lines}
-use Rattle.tb_grid.proofs.LevelLines.{level_lines}
+use Rattle.tb_grid.proofs.LevelLines.{level_lines, level_unique}
 use Rattle.tb_grid.proofs.Rises.{cut_increases}
 use Rattle.tb_geometry.specs.Base.{base_axes, base_lines}
 use Rattle.tb_geometry.proofs.Lines.{base_rises}
@@ -65,3 +69,47 @@ section_level n some few = record {
   is_grid = record { axes = are_axes n some few; few = omega (arith, counted n some few) };
   counted = counted n some few;
 }
+
+-- ---- and it is the only one
+
+along_x : (n : ℕ) (lines : List ℕ) → IsLevelAxis demo_grading (base_axes (storeys n)) X lines → lines ≡ lines_along n X
+along_x n lines h = level_unique 2 0 (base_lines X (storeys n)) lines (lines_along n X) h (is_level n X)
+
+along_y : (n : ℕ) (lines : List ℕ) → IsLevelAxis demo_grading (base_axes (storeys n)) Y lines → lines ≡ lines_along n Y
+along_y n lines h = level_unique 2 0 (base_lines Y (storeys n)) lines (lines_along n Y) h (is_level n Y)
+
+along_z : (n : ℕ) (lines : List ℕ) → IsLevelAxis demo_grading (base_axes (storeys n)) Z lines → lines ≡ lines_along n Z
+along_z n lines h = level_unique 0 0 (base_lines Z (storeys n)) lines (lines_along n Z) h (is_level n Z)
+
+pub level_counted : (n : ℕ) → 1 ≤ n → n ≤ 16 → (g : Axes) → IsLevelOf demo_grading (base_axes (storeys n)) g → cell_count (counts_of g) ≡ 240 * n
+level_counted n some few g h =
+    counted_by n _ _ _
+    (ap (λ (lines : List ℕ). length lines) (along_x n g.x (h X)) ∙ x_lines n some few)
+    (ap (λ (lines : List ℕ). length lines) (along_y n g.y (h Y)) ∙ y_lines n some few)
+    (ap (λ (lines : List ℕ). length lines) (along_z n g.z (h Z)) ∙ z_lines n some few)
+
+-- so it isn't too large
+pub not_too_large : (n : ℕ) → 1 ≤ n → n ≤ 16 → (why : GridTooLarge) → IsTooLarge demo_grading (base_axes (storeys n)) why → ⊥
+not_too_large n some few (Lines X count) h =
+    let same = ap (λ (lines : List ℕ). length lines) (along_x n h.lines h.level) ∙ x_lines n some few in
+    absurd (omega (arith, h.many, same))
+not_too_large n some few (Lines Y count) h =
+    let same = ap (λ (lines : List ℕ). length lines) (along_y n h.1.lines h.1.level) ∙ y_lines n some few in
+    absurd (omega (arith, h.1.many, same, few))
+not_too_large n some few (Lines Z count) h =
+    let same = ap (λ (lines : List ℕ). length lines) (along_z n h.2.lines h.2.level) ∙ z_lines n some few in
+    absurd (omega (arith, h.2.many, same))
+not_too_large n some few (Cells count) h =
+    let same = level_counted n some few h.level h.is_level in
+    absurd (omega (arith, h.many, same, few))
+
+-- the same of equal gradings and details
+pub never_too_large : (n : ℕ) (g : Grading) (d : Detail) → 1 ≤ n → n ≤ 16 → g ≡ demo_grading → d ≡ section n → (why : GridTooLarge) → IsTooLarge g (base_axes d.boxes) why → ⊥
+never_too_large n g d some few is of why h =
+    not_too_large n some few why
+    (subst (λ (f : Grading). IsTooLarge f (base_axes (storeys n)) why) is (subst (λ (e : Detail). IsTooLarge g (base_axes e.boxes) why) of h))
+
+pub counted_of : (n : ℕ) (g : Grading) (d : Detail) → 1 ≤ n → n ≤ 16 → g ≡ demo_grading → d ≡ section n → (a : Axes) → IsLevelOf g (base_axes d.boxes) a → cell_count (counts_of a) ≡ 240 * n
+counted_of n g d some few is of a h =
+    level_counted n some few a
+    (subst (λ (f : Grading). IsLevelOf f (base_axes (storeys n)) a) is (subst (λ (e : Detail). IsLevelOf g (base_axes e.boxes) a) of h))

@@ -1,28 +1,29 @@
 -- The first faults of a flux, found by a walk over numbers.
 use Rattle.std.proofs.Common.{◌≡◌, ◌≢◌, ℕ, zero, suc, ◌+◌, ◌<◌, ◌⊎◌, inl, inr, List, ap, sym, subst, ◌∙◌, refl, arith}
-use Rattle.std.specs.Prelude.{ℤ, pos, negsuc, slice_index_or}
+use Rattle.std.specs.Prelude.{ℤ, pos, negsuc, slice_index_or, MatchOption, Option, Some, None}
 use Rattle.std.proofs.lemmas.Bool.{cases_lt}
 use Rattle.tb_math.specs.Rational.{ℚ, int}
 use Rattle.tb_math.specs.Ceiling.{ceiling}
 use Rattle.tb_math.proofs.CeilingLaws.{ceiling-int}
-use Rattle.tb_places.specs.declared.AxisName.{AxisName}
 use Rattle.tb_places.specs.declared.FacePlace.{FacePlace}
 use Rattle.tb_places.specs.declared.Place.{Place}
 use Rattle.tb_places.specs.Inverse.{cell_place, face_place}
-use Rattle.tb_places.specs.Places.{Counts, IsCell, IsFace, cell_count, cell_number, face_count, face_number}
+use Rattle.tb_places.specs.Places.{Counts, cell_count, cell_number, face_count, face_number}
 use Rattle.tb_places.proofs.ByAxis.{same_by_axis}
 use Rattle.tb_places.proofs.Cells.{cell_number_of_place, cell_number_below, cell_place_of_number, cell_place_within}
 use Rattle.tb_places.proofs.Faces.{face_number_of_place, face_number_below, face_place_of_number, face_place_within}
 use Rattle.tb_detail.specs.declared.Detail.{Detail}
+use Rattle.tb_grid.specs.declared.ids.FaceId.{FaceId}
 use Rattle.tb_grid.specs.Grid.{Axes, counts_of}
 use Rattle.tb_model.specs.Energy.{Flux, outflow}
 use Rattle.tb_model.specs.Faults.{IsFirstOuter, IsFirstUnbalanced, IsSolid}
 use Rattle.tb_model.specs.Mesh.{Mesh}
 use Rattle.tb_geometry.specs.Grids.{mesh_on}
 use Rattle.tb_flux.specs.Fluxes.{IsLoss, IsPassed, IsShut, KeepsHeat, ShutsOff, flux_on}
+use Rattle.tb_flux.specs.Walks.{FindsOuter, KeepsHeatBelow, ShutsOffBelow}
 
 -- the mesh of a body on a grid has the grid's cells
-same_counts : (d : Detail) (g : Axes) → counts_of g ≡ (mesh_on d g).cells
+pub same_counts : (d : Detail) (g : Axes) → counts_of g ≡ (mesh_on d g).cells
 same_counts d g = same_by_axis _ _ _ _ refl refl refl
 
 -- ---- faces
@@ -34,11 +35,6 @@ flow_at q f = q f.axis f.place.i f.place.j f.place.k
 -- a face of a mesh is adiabatic, and heat passes it
 abbrev pub Leaks : Mesh → Flux → FacePlace → Type 0
 Leaks m q f = IsShut m f × (flow_at q f ≢ int (pos 0))
-
--- nothing passes the adiabatic faces of smaller numbers
-abbrev pub ShutsOffBelow : Mesh → Flux → ℕ → Type 0
-ShutsOffBelow m q f = (a : AxisName) (p : Place) → IsFace m.cells a p → IsShut m (record { axis = a; place = p }) →
-    face_number m.cells a p < f → q a p.i p.j p.k ≡ int (pos 0)
 
 pub none_shut_off : (m : Mesh) (q : Flux) → ShutsOffBelow m q 0
 none_shut_off m q a p face shut below = absurd (omega arith)
@@ -116,11 +112,15 @@ pub none_leaks : (d : Detail) (g : Axes) (q : Flux) → ShutsOffBelow (mesh_on d
 none_leaks d g q before =
     all_shut_off (mesh_on d g) q (subst (λ (n : Counts). ShutsOffBelow (mesh_on d g) q (face_count n)) (same_counts d g) before)
 
--- ---- cells
+-- what a walk over all faces has found
+pub outer_in_all : (d : Detail) (g : Axes) (values : List ℤ) (f : ℕ) (found : Option FaceId) → f ≡ face_count (counts_of g) →
+    FindsOuter d g values f found →
+    MatchOption found (ShutsOff (mesh_on d g) (flux_on g values)) (λ face. IsFirstOuter (mesh_on d g) (flux_on g values) face.0)
+outer_in_all d g values f (Some face) all finds = finds
+outer_in_all d g values f None all finds =
+    none_leaks d g (flux_on g values) (subst (λ (t : ℕ). ShutsOffBelow (mesh_on d g) (flux_on g values) t) all finds)
 
--- nothing is lost in the solid cells of smaller numbers
-abbrev pub KeepsHeatBelow : Mesh → Flux → ℕ → Type 0
-KeepsHeatBelow m q c = (p : Place) → IsCell m.cells p → IsSolid m p → cell_number m.cells p < c → outflow q p.i p.j p.k ≡ int (pos 0)
+-- ---- cells
 
 abbrev pub leaving : Flux → Place → ℚ
 leaving q p = outflow q p.i p.j p.k

@@ -1,3 +1,5 @@
+pub mod CellRows
 pub mod Firsts
+pub mod Hulls
 pub mod Outflows
 pub mod Parts

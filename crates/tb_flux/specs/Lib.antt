@@ -1,2 +1,4 @@
 pub mod Fluxes
 pub mod Lending
+pub mod Rows
+pub mod Walks

@@ -1,37 +1,24 @@
-// Where a flux is out of balance.
-ghost use Rattle.std.specs.Prelude.{◌≡◌, ◌↔◌, ◌<◌, ◌^◌, IsTrue, MatchOption, unsigned_abs, pos, ◌+ℤ◌};
-ghost use Rattle.tb_math.specs.Rational.{int};
-ghost use Rattle.tb_places.specs.Inverse.{cell_place, face_place};
-ghost use Rattle.tb_places.specs.Places.{IsCell, cell_count, face_count};
+// Where heat is lost or gained in a cell.
+ghost use Rattle.std.specs.Prelude.{◌≡◌, ◌↔◌, ◌+◌, ◌<◌, ◌≤◌, IsTrue, MatchOption, length, pos};
+ghost use Rattle.tb_places.specs.declared.AxisName.TheVariants.{Y, Z};
+ghost use Rattle.tb_places.specs.Along.{ahead};
+ghost use Rattle.tb_places.specs.Inverse.{cell_place};
+ghost use Rattle.tb_places.specs.Places.{IsCell, cell_count, cell_number, face_number, place_at};
 ghost use Rattle.tb_grid.specs.Grid.{counts_of};
 ghost use Rattle.tb_grid.specs.Views.{along_axes};
-ghost use Rattle.tb_model.specs.Energy.{IsBalanced, outflow};
-ghost use Rattle.tb_model.specs.Faults.{IsFirstOuter, IsFirstUnbalanced, IsSolid};
-ghost use Rattle.tb_model.specs.Values.{flux_of};
+ghost use Rattle.tb_model.specs.Energy.{IsBalanced};
+ghost use Rattle.tb_model.specs.Faults.{IsFirstUnbalanced, IsSolid};
 ghost use Rattle.tb_geometry.specs.Grids.{CarriesBody, mesh_on};
-ghost use Rattle.tb_flux.specs.Fluxes.{FitsFaces, IsLoss, IsPassed, IsShut, KeepsHeat, ShutsOff, flux_on, leaving_at};
+ghost use Rattle.tb_flux.specs.Fluxes.{FitsFaces, IsLoss, KeepsHeat, flux_on};
+ghost use Rattle.tb_flux.specs.Rows.{AreFlowsFrom, AreRowFlows};
+ghost use Rattle.tb_flux.specs.Walks.{FindsLoss, IsKeptBelow};
 
 use crate::flux::Flux;
-use tb_geometry::{Body, FaceKind, Occupant};
+use crate::row::CellRow;
+use tb_geometry::{Body, Occupant};
 use tb_grid::{AxisName, CellCounts, CellId, FaceId, Grid, Place};
 
 impl Flux {
-    /// The adiabatic face of the least number through which heat passes, if there is one: a face on the hull at a solid
-    /// cell. It takes no memory.
-    pub fn first_outer(&self, body: &Body, grid: &Grid) -> Option<FaceId>
-        requires carries { CarriesBody grid.now body.now }
-        requires fits { FitsFaces (counts_of grid.now) self.now }
-        ensures { let m = mesh_on body.now grid.now in let q = flux_on grid.now self.now in
-            MatchOption result (ShutsOff m q) (λ face. IsFirstOuter m q face.0) }
-    {
-        for number in 0..grid.faces() {
-            if self.is_passed(body, grid, FaceId(number)) {
-                return Some(FaceId(number));
-            }
-        }
-        None
-    }
-
     /// The solid cell of the least number that is out of balance, if there is one, and what leaves it through its
     /// faces, in nW per unit difference. It takes no memory.
     pub fn first_unbalanced(&self, body: &Body, grid: &Grid) -> Option<(CellId, i128)>
@@ -40,10 +27,9 @@ impl Flux {
         ensures { let m = mesh_on body.now grid.now in let q = flux_on grid.now self.now in
             MatchOption result (KeepsHeat m q) (λ found. IsFirstUnbalanced m q found.0.0 found.1) }
     {
-        for number in 0..grid.cells() {
-            let sum = self.leaving(grid, CellId(number));
-            if is_loss(body, grid, CellId(number), sum) {
-                return Some((CellId(number), sum));
+        for k in 0..grid.counts().z {
+            if let Some(found) = self.unbalanced_in_layer(body, grid, k) {
+                return Some(found);
             }
         }
         None
@@ -73,35 +59,48 @@ impl Flux {
         }
     }
 
-    // Whether a face is adiabatic and heat passes it. The body is asked only where there is a flow.
-    fn is_passed(&self, body: &Body, grid: &Grid, face: FaceId) -> bool
+    // The first such cell of a layer, where there is none before.
+    fn unbalanced_in_layer(&self, body: &Body, grid: &Grid, k: u32) -> Option<(CellId, i128)>
         requires carries { CarriesBody grid.now body.now }
         requires fits { FitsFaces (counts_of grid.now) self.now }
-        requires face { face.0 < face_count (counts_of grid.now) }
-        ensures { IsTrue result ↔ IsPassed (mesh_on body.now grid.now) (counts_of grid.now) self.now face.0 }
+        requires layer { k < counts_of grid.now Z }
+        requires before { let n = counts_of grid.now in
+            IsKeptBelow body.now grid.now self.now (cell_number n (place_at 0 0 k)) }
+        ensures { let n = counts_of grid.now in
+            FindsLoss body.now grid.now self.now (cell_number n (place_at 0 0 (k + 1))) result }
     {
-        !is_nothing(i128::from(self.get(face))) && is_shut(body, grid, face)
+        for j in 0..grid.counts().y {
+            if let Some(found) = self.unbalanced_in_row(body, grid, j, k) {
+                return Some(found);
+            }
+        }
+        None
     }
 
-    // What leaves a cell through its six faces.
-    fn leaving(&self, grid: &Grid, cell: CellId) -> i128
+    // The first such cell of a row, where there is none before.
+    fn unbalanced_in_row(&self, body: &Body, grid: &Grid, j: u32, k: u32) -> Option<(CellId, i128)>
+        requires carries { CarriesBody grid.now body.now }
         requires fits { FitsFaces (counts_of grid.now) self.now }
-        requires cell { cell.0 < cell_count (counts_of grid.now) }
-        ensures { let p = cell_place (counts_of grid.now) cell.0 in
-            outflow (flux_on grid.now self.now) p.i p.j p.k ≡ int result }
+        requires row { j < counts_of grid.now Y }
+        requires layer { k < counts_of grid.now Z }
+        requires before { let n = counts_of grid.now in
+            IsKeptBelow body.now grid.now self.now (cell_number n (place_at 0 j k)) }
+        ensures { let n = counts_of grid.now in
+            FindsLoss body.now grid.now self.now (cell_number n (place_at 0 (j + 1) k)) result }
     {
         let counts = grid.counts();
-        leaving_place(self.values(), counts, counts.cell_place(cell))
+        let first = Place { i: 0, j, k };
+        let row = cell_row(self.values(), counts, first);
+        let number = counts.cell_number(first).0;
+        for i in 0..counts.x {
+            let cell = CellId(number + i);
+            let sum = row.leaving(i);
+            if is_loss(body, grid, cell, sum) {
+                return Some((cell, sum));
+            }
+        }
+        None
     }
-}
-
-// Whether a face is adiabatic.
-fn is_shut(body: &Body, grid: &Grid, face: FaceId) -> bool
-    requires carries { CarriesBody grid.now body.now }
-    requires face { face.0 < face_count (counts_of grid.now) }
-    ensures { IsTrue result ↔ IsShut (mesh_on body.now grid.now) (face_place (counts_of grid.now) face.0) }
-{
-    body.kind(grid, face) == FaceKind::Shut
 }
 
 // Whether a cell is solid.
@@ -125,42 +124,56 @@ fn is_loss(body: &Body, grid: &Grid, cell: CellId, sum: i128) -> bool
     !is_nothing(sum) && is_solid(body, grid, cell)
 }
 
-fn is_nothing(flow: i128) -> bool
+pub(crate) fn is_nothing(flow: i128) -> bool
     ensures { IsTrue result ↔ (flow ≡ pos 0) }
 {
     flow == 0
 }
 
-// What leaves the cell at a place through its six faces.
-fn leaving_place(values: &[i64], counts: CellCounts, cell: Place) -> i128
+// The row of cells that begins at a place.
+fn cell_row(values: &[i64], counts: CellCounts, first: Place) -> CellRow<'_>
     requires fits { FitsFaces (along_axes counts) values.now }
-    requires cell { IsCell (along_axes counts) cell }
-    ensures { outflow (flux_of (along_axes counts) values.now) cell.i cell.j cell.k ≡ int result }
+    requires cell { IsCell (along_axes counts) first }
+    requires first { first.i ≡ 0 }
+    ensures cells { result.cells ≡ counts.x }
+    ensures flows { AreRowFlows (along_axes counts) values.now first.j first.k result }
 {
-    total(
-        leaving_along(values, counts, AxisName::X, cell),
-        leaving_along(values, counts, AxisName::Y, cell),
-        leaving_along(values, counts, AxisName::Z, cell),
-    )
+    CellRow {
+        cells: counts.x,
+        low_x: low_flows(values, counts, AxisName::X, first),
+        high_x: high_flows(values, counts, AxisName::X, first),
+        low_y: low_flows(values, counts, AxisName::Y, first),
+        high_y: high_flows(values, counts, AxisName::Y, first),
+        low_z: low_flows(values, counts, AxisName::Z, first),
+        high_z: high_flows(values, counts, AxisName::Z, first),
+    }
 }
 
-fn total(x: i128, y: i128, z: i128) -> i128
-    requires x { unsigned_abs x < 2 ^ 64 }
-    requires y { unsigned_abs y < 2 ^ 64 }
-    requires z { unsigned_abs z < 2 ^ 64 }
-    ensures { result ≡ x +ℤ y +ℤ z }
+// The flows through the low faces across an axis of the row of cells that begins at a place.
+fn low_flows(values: &[i64], counts: CellCounts, axis: AxisName, first: Place) -> &[i64]
+    requires fits { FitsFaces (along_axes counts) values.now }
+    requires cell { IsCell (along_axes counts) first }
+    requires first { first.i ≡ 0 }
+    ensures { AreFlowsFrom values.now (face_number (along_axes counts) axis first) counts.x result.now }
 {
-    x + y + z
+    flows_from(values, counts.low_face(axis, first), counts.x)
 }
 
-// What leaves the cell at a place through its two faces across an axis.
-fn leaving_along(values: &[i64], counts: CellCounts, axis: AxisName, cell: Place) -> i128
+// The flows through the high faces.
+fn high_flows(values: &[i64], counts: CellCounts, axis: AxisName, first: Place) -> &[i64]
     requires fits { FitsFaces (along_axes counts) values.now }
-    requires cell { IsCell (along_axes counts) cell }
-    ensures value { result ≡ leaving_at (along_axes counts) axis values.now cell }
-    ensures size { unsigned_abs result < 2 ^ 64 }
+    requires cell { IsCell (along_axes counts) first }
+    requires first { first.i ≡ 0 }
+    ensures { AreFlowsFrom values.now (face_number (along_axes counts) axis (ahead axis 1 first)) counts.x result.now }
 {
-    let low = counts.low_face(axis, cell);
-    let high = counts.high_face(axis, cell);
-    i128::from(values[high.0 as usize]) - i128::from(values[low.0 as usize])
+    flows_from(values, counts.high_face(axis, first), counts.x)
+}
+
+// The flows through so many faces, from one on.
+fn flows_from(values: &[i64], face: FaceId, count: u32) -> &[i64]
+    requires { face.0 + count ≤ length values.now }
+    ensures { AreFlowsFrom values.now face.0 count result.now }
+{
+    let from = face.0 as usize;
+    &values[from..from + count as usize]
 }

@@ -10,6 +10,8 @@
 mod balance;
 mod flux;
 pub mod laws;
+mod outer;
+mod row;
 #[cfg(test)]
 mod tests;
 

@@ -54,7 +54,7 @@ with_state s t P h p = subst P path p
         ∙ ap (λ c. record { body = s.body; grid = s.grid; case = c; field = t.field; flux = t.flux }) h.case
 
 -- a session's state and told, as told of the session
-state_told : (s t : Session) (told : Bool) → AreAlike s t → (IsTrue told ↔ (t ≢ s)) → IsTrue told ↔ (state_of t ≢ state_of s)
+pub state_told : (s t : Session) (told : Bool) → AreAlike s t → (IsTrue told ↔ (t ≢ s)) → IsTrue told ↔ (state_of t ≢ state_of s)
 state_told s t told a h = ((λ d e. h.0 d (whole e)), (λ n. h.1 (λ e. n (ap state_of e))))
   where
     whole : state_of t ≡ state_of s → t ≡ s

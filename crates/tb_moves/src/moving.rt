@@ -10,7 +10,11 @@ ghost use Rattle.tb_cycles.specs.Entries.{HasCycle};
 ghost use Rattle.tb_cycles.specs.Moves.{IsCycleMove};
 ghost use Rattle.tb_cycle_moves.specs.Turns.{AreCycleTurns};
 ghost use Rattle.tb_moves.specs.Moves.{AreMoves, HasMove, IsMove, IsPlainPass, IsSettled};
+ghost use Rattle.tb_geometry.specs.Faults.{IsAccepted};
+ghost use Rattle.tb_geometry.specs.Grids.{CarriesBody};
+ghost use Rattle.tb_costs.specs.Admissible.{IsAdmissible};
 ghost use Rattle.tb_moves.specs.FluxPasses.{IsFluxMove};
+ghost use Rattle.tb_moves.specs.Leaving.{RaisesNothing};
 ghost use Rattle.tb_moves.specs.Sessions.{AreAlike, inside_of, mesh_of, state_of, with_field, with_flux};
 
 use crate::moves::Move;
@@ -82,8 +86,8 @@ impl Session<'_> {
         changed
     }
 
-    /// Makes a move, and says whether the state changed.
-    pub fn apply(&mut self, wanted: Move) -> bool
+    // Makes a move, and says whether the state changed.
+    fn make(&mut self, wanted: Move) -> bool
         requires { HasMove (mesh_of self.old) wanted }
         ensures moved { IsMove (mesh_of self.old) (inside_of self.old) wanted (state_of self.old) (state_of self.new) }
         ensures told { IsTrue result ↔ (self.new ≢ self.old) }
@@ -97,13 +101,37 @@ impl Session<'_> {
         }
     }
 
+    // Its state is admissible.
+    fn keeps_state(&self)
+        ensures accepted { IsAccepted self.now.body }
+        ensures carries { CarriesBody self.now.grid self.now.body }
+        ensures state { IsAdmissible (mesh_of self.now) (inside_of self.now) (state_of self.now) }
+    {
+        let _ = &self.setting;
+    }
+
+    /// Makes a move, and says whether the state changed.
+    pub fn apply(&mut self, wanted: Move) -> bool
+        requires { HasMove (mesh_of self.old) wanted }
+        ensures moved { IsMove (mesh_of self.old) (inside_of self.old) wanted (state_of self.old) (state_of self.new) }
+        ensures leaves { RaisesNothing (mesh_of self.old) (inside_of self.old) (state_of self.old) (state_of self.new) }
+        ensures told { IsTrue result ↔ (self.new ≢ self.old) }
+        ensures stays { IsFalse result → self.new ≡ self.old }
+        ensures alike { AreAlike self.old self.new }
+    {
+        self.keeps_state();
+        self.make(wanted)
+    }
+
     /// Makes the moves of a list in their order, and says whether one of them changed the state.
     pub fn apply_all(&mut self, moves: &[Move]) -> bool
         requires { All (HasMove (mesh_of self.old)) moves.now }
         ensures moved { AreMoves (mesh_of self.old) (inside_of self.old) moves.now (state_of self.old) (state_of self.new) result }
+        ensures leaves { RaisesNothing (mesh_of self.old) (inside_of self.old) (state_of self.old) (state_of self.new) }
         ensures stays { IsFalse result → self.new ≡ self.old }
         ensures alike { AreAlike self.old self.new }
     {
+        self.keeps_state();
         let mut changed = false;
         for i in 0..moves.len() {
             let wanted = moves[i];
@@ -149,9 +177,11 @@ impl Session<'_> {
     /// A plain pass: the moves of all nodes, of all loops and of all cycles in order. Says whether one changed the state.
     pub fn pass(&mut self) -> bool
         ensures moved { IsPlainPass (mesh_of self.old) (inside_of self.old) (state_of self.old) (state_of self.new) result }
+        ensures leaves { RaisesNothing (mesh_of self.old) (inside_of self.old) (state_of self.old) (state_of self.new) }
         ensures stays { IsFalse result → self.new ≡ self.old }
         ensures alike { AreAlike self.old self.new }
     {
+        self.keeps_state();
         let nodes = self.pass_nodes();
         let loops = self.pass_loops();
         let cycles = self.pass_cycles();

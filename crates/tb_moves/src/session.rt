@@ -16,9 +16,11 @@ use tb_trees::OutletTree;
 /// A session: a body on a grid in a case, with a present field and a present flux. Contracts see these five.
 ///
 /// The ends of the field and of the flux are kept once they are known, until a move or an offer changes the half that
-/// they belong to. For each cell of a large grid a session takes about 66 bytes: 8 for a node value, 24 for three flows,
-/// 16 for the numbers of the rows of weights of a cell and three faces, and 18 for its outlet. The rows come on top, 80
-/// bytes for one of a cell and 32 for one of a face, which cells that follow on one another share where they are alike.
+/// they belong to. A session takes less than 100 bytes for each cell of a large grid. Of a grid with many layers they are
+/// about 66: 8 for a node value, 24 for three flows, 16 for the numbers of the rows of weights of a cell and three faces, and
+/// 18 for its outlet. Of one with a single layer of cells, which has two nodes and four faces for each, they are 87. The
+/// rows come on top, 80 bytes for one of a cell and 32 for one of a face: all cells of one conductivity and one size share
+/// one, and so do all surfaces of one resistance, size and side.
 #[derive(Drop)]
 pub struct Session<'a> {
     pub(crate) setting: Setting<'a>,

@@ -60,6 +60,9 @@ pub one_reading : (words : List Text) (o p : SolveOptions) → IsReading words o
 one_reading words o p r s =
     same_options o p (λ option. let both : ◌≡◌ {A = Result (Option ℕ) NumberFault} (Ok (given o option)) (Ok (given p option)) = sym (r.gives option) ∙ s.gives option in cc both)
 
+pub one_number_of_storeys : (words : List Text) (n m : ℕ) → IsStoreyReading words n → IsStoreyReading words m → n ≡ m
+one_number_of_storeys words n m r s = let both : ◌≡◌ {A = Result ℕ NumberFault} (Ok n) (Ok m) = sym r.gives ∙ s.gives in cc both
+
 -- ---- no reading
 
 -- what holds without an error holds of each

@@ -56,6 +56,11 @@ pub record IsRepairedFlux (m : Mesh) (given q : Flux) : Type 0 where
       ¬ IsOutletFace m (face_number m.cells a p) → flow_at q a p ≡ flow_at given a p
   pub rest : (a : AxisName) (p : Place) → IsFace m.cells a p → carries (kind_at m a p) ≡ false → flow_at q a p ≡ int (pos 0)
 
+-- of all fluxes of rational values there is one repaired flux at the most
+abbrev pub IsOneRepairedFlux : Mesh → List ℤ → Type 0
+IsOneRepairedFlux m given = (q r : Flux) → IsRepairedFlux m (flux_of m.cells given) q → IsRepairedFlux m (flux_of m.cells given) r →
+    (a : AxisName) (p : Place) → IsFace m.cells a p → flow_at q a p ≡ flow_at r a p
+
 -- what a repair starts from: 0 on Shut and Idle faces
 pub record IsCleared (m : Mesh) (given values : List ℤ) : Type 0 where
   pub count : length values ≡ face_count m.cells

@@ -4,26 +4,15 @@ use Rattle.std.proofs.Common.{◌≡◌, ap, ◌∙◌, ℕ, ◌^◌, ◌≤◌,
 use Rattle.std.proofs.lemmas.Int.{ints}
 use Rattle.std.specs.Int.{w64}
 use Rattle.tb_math.specs.Ceiling.{ceiling}
-use Rattle.tb_terms.specs.Terms.{field_cell_term, field_face_term}
+use Rattle.tb_terms.specs.Terms.{field_face_term}
 use Rattle.tb_field.specs.Fields.{IsTemperature}
-use Rattle.tb_sums.specs.Corners.{cell_at, face_at}
+use Rattle.tb_sums.specs.Corners.{face_at}
 
 pub level_kept : (z : ℤ) → IsTemperature z → to_z w64 (of_z w64 z) ≡ z
 level_kept z h = omega (arith, ints, h.least, h.most)
 
 pub rise_is : (r high low : ℤ) → IsTemperature high → IsTemperature low → r ≡ to_z w64 (of_z w64 high) -ℤ to_z w64 (of_z w64 low) → r ≡ high -ℤ low
 rise_is r high low h l e = e ∙ ap (λ (z : ℤ). z -ℤ to_z w64 (of_z w64 low)) (level_kept high h) ∙ ap (λ (z : ℤ). high -ℤ z) (level_kept low l)
-
-pub rise_kept : (r high low : ℤ) → IsTemperature high → IsTemperature low → unsigned_abs r ≤ 10 ^ 8 → r ≡ to_z w64 (of_z w64 high) -ℤ to_z w64 (of_z w64 low) → to_z w64 (of_z w64 r) ≡ high -ℤ low
-rise_kept r high low h l s e = omega (arith, ints, rise_is r high low h l e, s)
-
-pub cell_is : (p lambda a b c : ℕ) (d00 d10 d01 d11 e00 e10 e01 e11 : ℤ) → d00 ≡ e00 → d10 ≡ e10 → d01 ≡ e01 → d11 ≡ e11
-    → pos p ≡ ceiling (field_cell_term (cell_at lambda a b c d00 d10 d01 d11)) → pos p ≡ ceiling (field_cell_term (cell_at lambda a b c e00 e10 e01 e11))
-cell_is p lambda a b c d00 d10 d01 d11 e00 e10 e01 e11 h00 h10 h01 h11 h =
-    h ∙ ap (λ (z : ℤ). ceiling (field_cell_term (cell_at lambda a b c z d10 d01 d11))) h00
-    ∙ ap (λ (z : ℤ). ceiling (field_cell_term (cell_at lambda a b c e00 z d01 d11))) h10
-    ∙ ap (λ (z : ℤ). ceiling (field_cell_term (cell_at lambda a b c e00 e10 z d11))) h01
-    ∙ ap (λ (z : ℤ). ceiling (field_cell_term (cell_at lambda a b c e00 e10 e01 z))) h11
 
 pub kept : (r e : ℤ) → unsigned_abs r ≤ 10 ^ 8 → r ≡ e → to_z w64 (of_z w64 r) ≡ e
 kept r e s h = omega (arith, ints, h, s)

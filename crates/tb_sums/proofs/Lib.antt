@@ -8,5 +8,6 @@ pub mod LossRuns
 pub mod Meets
 pub mod RoundedTerms
 pub mod Runs
+pub mod Spreads
 pub mod Stored
 pub mod WholeTerms

@@ -1,9 +1,11 @@
 -- The terms of a cell as the numbers that they are made of.
-use Rattle.std.specs.Prelude.{ℕ, [], ◌∷◌, ℤ, ◌+ℤ◌, ◌-ℤ◌}
+use Rattle.std.specs.Prelude.{ℕ, List, [], ◌∷◌, ℤ, pos, ◌+ℤ◌, ◌-ℤ◌}
+use Rattle.tb_math.specs.Rational.{ℚ, int}
 use Rattle.tb_math.specs.Ceiling.{ceiling}
+use Rattle.tb_model.specs.Energy.{cell_energy}
 use Rattle.tb_terms.specs.declared.field.FieldCell.{FieldCell}
 use Rattle.tb_terms.specs.declared.field.FieldFace.{FieldFace}
-use Rattle.tb_terms.specs.Terms.{field_cell_term}
+use Rattle.tb_terms.specs.Terms.{area_of, field_cell_term}
 use Rattle.tb_field.specs.Fields.{IsTemperature}
 use Rattle.tb_sums.specs.declared.cell.Corners.{Corners}
 
@@ -24,6 +26,20 @@ cell_at lambda a b c d00 d10 d01 d11 = record { lambda = lambda; a = a; b = b; c
 
 abbrev pub face_at : (rs b c : ℕ) (d00 d10 d01 d11 : ℤ) → FieldFace
 face_at rs b c d00 d10 d01 d11 = record { rs = rs; b = b; c = c; t = d00 ∷ d10 ∷ d01 ∷ d11 ∷ [] }
+
+-- the energy along an axis with a spread
+abbrev pub energy_of : (lambda a b c spread : ℕ) → ℚ
+energy_of lambda a b c spread = cell_energy (int (pos lambda)) (int (pos a)) (area_of b c) (int (pos spread))
+
+-- the differences along each axis, at the corners (0,0), (1,0), (0,1) and (1,1) of the cross-section
+abbrev pub rises_x : Corners → List ℤ
+rises_x t = (t.t100 -ℤ t.t000) ∷ (t.t110 -ℤ t.t010) ∷ (t.t101 -ℤ t.t001) ∷ (t.t111 -ℤ t.t011) ∷ []
+
+abbrev pub rises_y : Corners → List ℤ
+rises_y t = (t.t010 -ℤ t.t000) ∷ (t.t110 -ℤ t.t100) ∷ (t.t011 -ℤ t.t001) ∷ (t.t111 -ℤ t.t101) ∷ []
+
+abbrev pub rises_z : Corners → List ℤ
+rises_z t = (t.t001 -ℤ t.t000) ∷ (t.t101 -ℤ t.t100) ∷ (t.t011 -ℤ t.t010) ∷ (t.t111 -ℤ t.t110) ∷ []
 
 -- the terms of a cell with these corners
 abbrev pub along_x : (lambda x y z : ℕ) → Corners → FieldCell

@@ -1,15 +1,16 @@
 // The energy of a solid cell, and of a surface.
 ghost use Rattle.std.specs.Prelude.{◌≡◌, ◌+◌, ◌*◌, ◌^◌, ◌<◌, ◌≤◌, [], ◌∷◌, pos, ◌+ℤ◌, ◌-ℤ◌, ◌≤ℤ◌, unsigned_abs};
 ghost use Rattle.tb_math.specs.Ceiling.{ceiling};
-ghost use Rattle.tb_terms.specs.Limits.{IsConductivity, IsDifference, IsResistance, IsWidth};
-ghost use Rattle.tb_terms.specs.Terms.{field_cell_term, field_face_term};
+ghost use Rattle.tb_terms.specs.Limits.{IsConductivity, IsDifference, IsResistance};
+ghost use Rattle.tb_terms.specs.Terms.{field_face_term};
 ghost use Rattle.tb_field.specs.Fields.{IsTemperature};
-ghost use Rattle.tb_sums.specs.Corners.{HasTemperatures, along_x, along_y, along_z, cell_at, face_at, face_across, solid_up};
+ghost use Rattle.tb_sums.specs.Corners.{HasTemperatures, energy_of, face_at, face_across, solid_up};
 
 use crate::interval::Interval;
+use crate::modes::spreads_of;
 use crate::terms::term_up;
-use tb_rows::Divisor;
-use tb_terms::{FieldCell, FieldFace};
+use tb_rows::{Divisor, quotient_up};
+use tb_terms::FieldFace;
 
 /// The node values at the corners of a cell: x first, then y, then z.
 #[derive(Clone, Copy, Debug)]
@@ -55,69 +56,19 @@ fn rise(low: i64, high: i64) -> i64
     high - low
 }
 
-// The energy of a cell along an axis.
+// The energy of a cell along an axis, with its width a and the spread of its differences there.
 #[inline]
-fn axis_energy(lambda: u32, a: Interval, b: Interval, c: Interval, d: Differences) -> u128
-    requires { IsConductivity lambda }
-    ensures value { pos result ≡ ceiling (field_cell_term (cell_at lambda a.width b.width c.width d.d00 d.d10 d.d01 d.d11)) }
-    ensures most { result ≤ 125 * 10 ^ 23 }
-{
-    let term = FieldCell {
-        lambda,
-        a: a.width,
-        b: b.width,
-        c: c.width,
-        d: [d.d00, d.d10, d.d01, d.d11],
-    };
-    term_up(&term, a.energy)
-}
-
-#[inline]
-fn energy_along_x(lambda: u32, at: Cuboid, t: Corners) -> u128
+fn axis_energy(lambda: u32, a: Interval, b: Interval, c: Interval, spread: u64) -> u128
     requires conductivity { IsConductivity lambda }
-    requires temperatures { HasTemperatures t }
-    ensures value { pos result ≡ ceiling (field_cell_term (along_x lambda at.x.width at.y.width at.z.width t)) }
+    requires spread { spread ≤ 36 * 10 ^ 16 }
+    ensures value { pos result ≡ ceiling (energy_of lambda a.width b.width c.width spread) }
     ensures most { result ≤ 125 * 10 ^ 23 }
 {
-    let d = Differences {
-        d00: rise(t.t000, t.t100),
-        d10: rise(t.t010, t.t110),
-        d01: rise(t.t001, t.t101),
-        d11: rise(t.t011, t.t111),
-    };
-    axis_energy(lambda, at.x, at.y, at.z, d)
-}
-
-#[inline]
-fn energy_along_y(lambda: u32, at: Cuboid, t: Corners) -> u128
-    requires conductivity { IsConductivity lambda }
-    requires temperatures { HasTemperatures t }
-    ensures value { pos result ≡ ceiling (field_cell_term (along_y lambda at.x.width at.y.width at.z.width t)) }
-    ensures most { result ≤ 125 * 10 ^ 23 }
-{
-    let d = Differences {
-        d00: rise(t.t000, t.t010),
-        d10: rise(t.t100, t.t110),
-        d01: rise(t.t001, t.t011),
-        d11: rise(t.t101, t.t111),
-    };
-    axis_energy(lambda, at.y, at.x, at.z, d)
-}
-
-#[inline]
-fn energy_along_z(lambda: u32, at: Cuboid, t: Corners) -> u128
-    requires conductivity { IsConductivity lambda }
-    requires temperatures { HasTemperatures t }
-    ensures value { pos result ≡ ceiling (field_cell_term (along_z lambda at.x.width at.y.width at.z.width t)) }
-    ensures most { result ≤ 125 * 10 ^ 23 }
-{
-    let d = Differences {
-        d00: rise(t.t000, t.t001),
-        d10: rise(t.t100, t.t101),
-        d01: rise(t.t010, t.t011),
-        d11: rise(t.t110, t.t111),
-    };
-    axis_energy(lambda, at.z, at.x, at.y, d)
+    let section = u64::from(b.width) * u64::from(c.width);
+    quotient_up(
+        u128::from(u64::from(lambda) * section) * u128::from(spread),
+        a.energy,
+    )
 }
 
 // The energy of a surface between a cell's corners and air of a level.
@@ -144,7 +95,10 @@ pub fn solid_energy(lambda: u32, at: Cuboid, t: Corners) -> u128
     ensures value { pos result ≡ solid_up lambda at.x.width at.y.width at.z.width t }
     ensures most { result ≤ 375 * 10 ^ 23 }
 {
-    energy_along_x(lambda, at, t) + energy_along_y(lambda, at, t) + energy_along_z(lambda, at, t)
+    let spreads = spreads_of(t);
+    axis_energy(lambda, at.x, at.y, at.z, spreads.x)
+        + axis_energy(lambda, at.y, at.x, at.z, spreads.y)
+        + axis_energy(lambda, at.z, at.x, at.y, spreads.z)
 }
 
 /// The energy of a surface whose corners have these temperatures, at air of a level.

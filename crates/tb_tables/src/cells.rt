@@ -1,4 +1,4 @@
-//! The rows of the cells of a grid that carries a body.
+//! The sorts of the cells of a grid that carries a body.
 ghost use Rattle.std.specs.Prelude.{◌≡◌, ◌<◌};
 ghost use Rattle.tb_places.specs.Inverse.{cell_place};
 ghost use Rattle.tb_places.specs.Places.{IsCell, cell_count};
@@ -8,12 +8,13 @@ ghost use Rattle.tb_grid.specs.Grid.{counts_of};
 ghost use Rattle.tb_places.specs.declared.AxisName.TheVariants.{X, Y, Z};
 ghost use Rattle.tb_geometry.specs.Grids.{CarriesBody, mesh_on};
 ghost use Rattle.tb_terms.specs.Limits.{IsWidth};
+ghost use Rattle.tb_relax.specs.declared.table.CellWeights.{CellWeights};
 ghost use Rattle.tb_tables.specs.MeshRows.{IsCellRow};
+ghost use Rattle.tb_tables.specs.Sorts.{HasSort, IsWithin};
 
-use crate::rows::{air, solid};
+use crate::sorts::CellSort;
 use tb_geometry::{Body, Occupant};
 use tb_grid::{AxisName, CellId, Grid, Place};
-use tb_relax::CellWeights;
 
 // A cell's widths along x, y and z.
 #[derive(Clone, Copy)]
@@ -53,18 +54,24 @@ fn widths_at(body: &Body, grid: &Grid, place: Place) -> Widths
     }
 }
 
-/// The row of a cell: its weights along each axis, 0 in air.
-pub fn cell_row(body: &Body, grid: &Grid, cell: CellId) -> CellWeights
+/// The sort of a cell.
+pub fn cell_sort(body: &Body, grid: &Grid, cell: CellId) -> CellSort
     requires limits { InLimits body.now }
     requires carries { CarriesBody grid.now body.now }
     requires cell { cell.0 < cell_count (counts_of grid.now) }
-    ensures { IsCellRow (mesh_on body.now grid.now) (cell_place (counts_of grid.now) cell.0) result }
+    ensures within { IsWithin result }
+    ensures rows { (w : CellWeights) → HasSort result w → IsCellRow (mesh_on body.now grid.now) (cell_place (counts_of grid.now) cell.0) w }
 {
     match body.occupant(grid, cell) {
         Occupant::Solid { lambda } => {
             let widths = widths_at(body, grid, place_of(grid, cell));
-            solid(lambda, widths.x, widths.y, widths.z)
+            CellSort::Solid {
+                lambda,
+                x: widths.x,
+                y: widths.y,
+                z: widths.z,
+            }
         }
-        Occupant::Air { .. } => air(),
+        Occupant::Air { .. } => CellSort::Air,
     }
 }

@@ -1,4 +1,4 @@
-//! The rows of the faces of a grid that carries a body.
+//! The sorts of the faces of a grid that carries a body.
 ghost use Rattle.std.specs.Prelude.{◌≡◌, ◌==◌, ◌*◌, ◌/◌, ◌%◌, ◌^◌, ◌<◌};
 ghost use Rattle.tb_places.specs.Inverse.{face_place};
 ghost use Rattle.tb_places.specs.Places.{IsFace, face_count, second, third};
@@ -8,13 +8,14 @@ ghost use Rattle.tb_grid.specs.Grid.{counts_of};
 ghost use Rattle.tb_model.specs.Values.{case_of};
 ghost use Rattle.tb_geometry.specs.Grids.{CarriesBody, mesh_on};
 ghost use Rattle.tb_terms.specs.Limits.{IsWidth};
+ghost use Rattle.tb_relax.specs.declared.table.FaceWeight.{FaceWeight};
 ghost use Rattle.tb_tables.specs.MeshRows.{IsFaceRow};
+ghost use Rattle.tb_tables.specs.Sorts.{HasFaceSort, IsFaceWithin};
 
-use crate::rows::{no_surface, surface};
+use crate::sorts::FaceSort;
 use tb_geometry::{Body, Case};
 use tb_grid::{FaceId, FacePlace, Grid, other_axes};
 use tb_model::FaceKind;
-use tb_relax::FaceWeight;
 
 // The widths of a face.
 #[derive(Clone, Copy)]
@@ -59,12 +60,13 @@ fn widths_at(body: &Body, grid: &Grid, face: FacePlace) -> Across
     }
 }
 
-/// The row of a face in a case: its weights where it is a surface, else 0, and whether it counts.
-pub fn face_row(body: &Body, grid: &Grid, face: FaceId, case: Case) -> FaceWeight
+/// The sort of a face in a case.
+pub fn face_sort(body: &Body, grid: &Grid, face: FaceId, case: Case) -> FaceSort
     requires limits { InLimits body.now }
     requires carries { CarriesBody grid.now body.now }
     requires face { face.0 < face_count (counts_of grid.now) }
-    ensures { IsFaceRow (mesh_on body.now grid.now) (case_of case.mask) (face_place (counts_of grid.now) face.0) result }
+    ensures within { IsFaceWithin result }
+    ensures rows { (w : FaceWeight) → HasFaceSort result w → IsFaceRow (mesh_on body.now grid.now) (case_of case.mask) (face_place (counts_of grid.now) face.0) w }
 {
     match body.kind(grid, face) {
         FaceKind::Surface {
@@ -73,16 +75,16 @@ pub fn face_row(body: &Body, grid: &Grid, face: FaceId, case: Case) -> FaceWeigh
             low_is_air,
         } => {
             let across = widths_at(body, grid, place_of(grid, face));
-            surface(
+            FaceSort::Surface {
                 rs,
-                across.b,
-                across.c,
-                is_inside(case.mask, environment),
+                b: across.b,
+                c: across.c,
+                inside: is_inside(case.mask, environment),
                 low_is_air,
-            )
+            }
         }
-        FaceKind::Inner => no_surface(true),
-        FaceKind::Shut => no_surface(true),
-        FaceKind::Idle => no_surface(false),
+        FaceKind::Inner => FaceSort::NoSurface { counts: true },
+        FaceKind::Shut => FaceSort::NoSurface { counts: true },
+        FaceKind::Idle => FaceSort::NoSurface { counts: false },
     }
 }

@@ -26,8 +26,8 @@ pub struct Tables {
 }
 
 impl Tables {
-    /// The weights of a body on a grid that carries it, in a case. Cells that follow on one another with equal rows share
-    /// one, and so do faces.
+    /// The weights of a body on a grid that carries it, in a case. All cells of one sort share a row, and so do faces. What
+    /// is known of sorts while the rows are made is let go, and no table has spare places.
     ///
     /// # Errors
     /// Memory ran out.

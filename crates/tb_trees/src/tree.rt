@@ -70,7 +70,7 @@ impl OutletTree {
     ghost use Rattle.tb_places.specs.Places.{cell_count, face_count};
     ghost use Rattle.tb_outlets.specs.Balancing.{IsWithinLimits, flow};
     ghost use Rattle.tb_outlets.specs.Outlets.{IsSolidAt};
-    ghost use Rattle.tb_outlets.specs.Repair.{IsCycle, IsRepairAnswer, IsRepaired};
+    ghost use Rattle.tb_outlets.specs.Repair.{IsCycle, IsOneRepairedFlux, IsRepairAnswer, IsRepaired};
     ghost use Rattle.tb_cycles.specs.Ways.{LeadOut, most_pull, sum_over};
     ghost use Rattle.tb_outlets.specs.Trees.{IsDistanceAt, IsOutletNumber};
     ghost use Rattle.tb_cycles.specs.Entries.{HasCycle, IsEntry};
@@ -137,6 +137,7 @@ impl OutletTree {
         requires limits { IsWithinLimits given.now }
         ensures repaired { IsRepairAnswer (mesh_of self.now) given.now result values.new }
         ensures one { (v w : List ℤ) → IsRepaired (mesh_of self.now) given.now v → IsRepaired (mesh_of self.now) given.now w → v ≡ w }
+        ensures one_flux { IsOneRepairedFlux (mesh_of self.now) given.now }
     {
         repair_along(
             self.counts,

@@ -1,5 +1,5 @@
 -- What stands whole of the intervals of a bundle after a fault of the sink.
-use Rattle.std.proofs.Common.{◌≡◌, ◌⊎◌, ◌++◌, ℕ, List, Option, codes, inl, inr, refl, subst}
+use Rattle.std.proofs.Common.{◌≡◌, ◌++◌, ℕ, List, Option, codes, inl, inr, refl, ap, subst}
 use Rattle.tb_outside.specs.Outside.{WritesFront}
 use Rattle.tb_geometry.specs.FaultTexts as body
 use Rattle.tb_geometry.specs.declared.fault.BodyFault.{BodyFault}
@@ -20,8 +20,9 @@ use Rattle.thermal_cli.specs.declared.words.Command.TheVariants.{Check}
 use Rattle.thermal_cli.specs.Answers.{Answers, answer_message}
 use Rattle.thermal_cli.specs.Check.{CheckAnswers, check_text}
 use Rattle.thermal_cli.specs.Outcome.{IsRead, WritesCertifiedFront, WritesFrontOfOne}
-use Rattle.thermal_cli.specs.Words.{Names}
+use Rattle.thermal_cli.specs.Words.{Names, reads_input}
 use Rattle.thermal_cli.proofs.Commands.{one_command}
+use Rattle.thermal_cli.proofs.Runs.{was_read}
 
 -- ---- every fault of a bundle begins with the same word
 
@@ -80,4 +81,4 @@ certified_front left faults words a b holds_old holds_new n (told.Answered x, o,
     let c : o.0 ≡ Check = one_command words o.0 Check o.1 n in
     let y : Answers Check o.2 x = subst (λ (d : Command). Answers d o.2 x) c o.4 in
     let f : WritesFront holds_old holds_new (check_text y.0) = subst (λ (z : Answer). WritesFront holds_old holds_new (answer_message z).text) y.1 w in
-    answer_front (left a) (left b) holds_old holds_new o.2 o.3 y.0 y.2 f
+    answer_front (left a) (left b) holds_old holds_new o.2 (was_read left o.0 a b o.2 (ap reads_input c) o.3) y.0 y.2 f

@@ -1,4 +1,5 @@
 pub mod Commands
+pub mod Demos
 pub mod Endings
 pub mod Fronts
 pub mod Runs

@@ -13,19 +13,20 @@ use Rattle.thermal_cli.specs.declared.status.Status.{Status}
 use Rattle.thermal_cli.specs.declared.status.Status.TheVariants as status
 use Rattle.thermal_cli.specs.declared.told.Told.TheVariants as told
 use Rattle.thermal_cli.specs.declared.words.Command.{Command}
-use Rattle.thermal_cli.specs.declared.words.Command.TheVariants.{Check, Report, Solve}
+use Rattle.thermal_cli.specs.declared.words.Command.TheVariants.{Check, Report, Solve, UValue, Demo}
 use Rattle.thermal_cli.specs.Answers.{Answers, answer_message}
 use Rattle.thermal_cli.specs.Check.{Accepts, CheckAnswers, check_status, check_text}
-use Rattle.thermal_cli.specs.Outcome.{IsAnswered, IsInterrupted, IsRead, NamesSolve, Runs, TellsAccepted, TellsOf, TellsReport, TellsSolved, WritesFrontOfOne}
+use Rattle.thermal_cli.specs.Messages.{Tells}
+use Rattle.thermal_cli.specs.Outcome.{IsAnswered, IsInterrupted, IsRead, Reads, Runs, TellsAccepted, TellsDemo, TellsOf, TellsReport, TellsSolved, WritesFrontOfOne}
 use Rattle.thermal_cli.specs.Report.{ReportAnswers, report_status, report_text}
 use Rattle.thermal_cli.specs.Solve.{solve_status, solve_text}
 use Rattle.tb_options.specs.declared.SolveOptions.{SolveOptions}
-use Rattle.thermal_cli.specs.Words.{HasReading, Names}
+use Rattle.thermal_cli.specs.Words.{HasReading, Names, NamesDemo, NamesReader, NamesSolve, reads_input}
 use Rattle.tb_report.specs.Sound.{HasSoundFigures}
 use Rattle.tb_report.specs.Texts as figures
 use Rattle.tb_report.proofs.Figures.{figures_sound}
-use Rattle.thermal_cli.proofs.Endings.{IsEndingOf, IsSolve, answers_end}
-use Rattle.thermal_cli.proofs.Commands.{one_command}
+use Rattle.thermal_cli.proofs.Endings.{IsDemo, IsEndingOf, IsSolve, answers_end}
+use Rattle.thermal_cli.proofs.Commands.{one_command, reader_alone}
 use Rattle.thermal_cli.proofs.Solving.{solved_bundle}
 
 -- ---- which status belongs to what is told
@@ -65,12 +66,12 @@ by_check c s (inr (inl a)) e = cc (a, e)
 by_check c s (inr (inr (inl a))) e = let f = a.0 in cc (f, e)
 by_check c s (inr (inr (inr a))) e = a.1
 
--- only `solve` misses a width
-by_solve : (c : Command) (s : Status) → IsEndingOf c s → s ≡ status.WidthNotReached → IsSolve c
-by_solve c s (inl a) e = cc (a, e)
-by_solve c s (inr (inl a)) e = cc (a, e)
-by_solve c s (inr (inr (inl a))) e = a.1
-by_solve c s (inr (inr (inr a))) e = let f = a.0 in cc (f, e)
+-- only `solve` and `demo` miss a width
+by_search : (c : Command) (s : Status) → IsEndingOf c s → s ≡ status.WidthNotReached → IsSolve c ⊎ IsDemo c
+by_search c s (inl a) e = cc (a, e)
+by_search c s (inr (inl a)) e = cc (a, e)
+by_search c s (inr (inr (inl a))) e = a.1
+by_search c s (inr (inr (inr a))) e = let f = a.0 in cc (f, e)
 
 not_fine : status.Fine ≡ status.CertificateRefused → ⊥
 not_fine e = cc e
@@ -92,6 +93,21 @@ shown bytes (report.FaultOfPart f) holds_old holds_new h e w = absurd (not_refus
 shown bytes (report.Report r) holds_old holds_new (b, a, (is, none)) e w =
     (b, a, figures_sound b a.2, subst (λ (x : Bundle). Adds holds_old holds_new (figures.report_text x)) is w)
 
+-- ---- what a command reads
+
+-- what reads its input read it to its end
+pub was_read : {S : Type 0} (left : S → Option (List ℕ)) (c : Command) (old new : S) (bytes : List ℕ) → reads_input c ≡ true → Reads left c old new bytes
+    → IsRead (left old) (left new) bytes
+was_read left Check old new bytes e r = r
+was_read left Report old new bytes e r = r
+was_read left (Solve o) old new bytes e r = r
+was_read left UValue old new bytes e r = r
+was_read left (Demo n) old new bytes e r = absurd (cc e)
+
+-- words that name a command which reads its input name no other
+reader_reads : (words : List (List ℕ)) (c : Command) → NamesReader words → Names words c → reads_input c ≡ true
+reader_reads words c (d, h, reads) k = ap reads_input (one_command words c d k h) ∙ reads
+
 -- ---- what each status says
 
 module _ {S K : Type 0} (left : S → Option (List ℕ)) (source_faults : S → ℕ) (holds : K → Option (List ℕ)) (sink_faults : K → ℕ) (words : List (List ℕ)) (a b : S) (k l : K) where
@@ -108,8 +124,8 @@ module _ {S K : Type 0} (left : S → Option (List ℕ)) (source_faults : S → 
   usage_words s p (x, o, inr t) = let e = t.0 in cc (e, p)
 
   -- memory that ran out on words without a reading left the source untouched
-  untouched : (¬ HasReading words) → HasReading words ⊎ (b ≡ a) → b ≡ a
-  untouched h (inl reads) = absurd (h reads)
+  untouched : (¬ HasReading words) → NamesReader words ⊎ (b ≡ a) → b ≡ a
+  untouched h (inl reads) = absurd (h (reads.0, reads.1))
   untouched h (inr same) = same
 
   -- words without a reading are told so, unless memory runs out, and the source is untouched
@@ -118,15 +134,15 @@ module _ {S K : Type 0} (left : S → Option (List ℕ)) (source_faults : S → 
   no_reading s h (told.Usage, o, inr t) = (inr (inr t.0), o.1)
   no_reading s h (told.NoMemory, o, inl t) = (inr (inl t.0), untouched h o.0)
   no_reading s h (told.NoMemory, o, inr t) = (inr (inr t.0), untouched h o.0)
-  no_reading s h (told.SourceFault, o, t) = absurd (h o.0)
-  no_reading s h (told.TooLong, o, t) = absurd (h o.0)
+  no_reading s h (told.SourceFault, o, t) = absurd (h (o.0.0, o.0.1))
+  no_reading s h (told.TooLong, o, t) = absurd (h (o.0.0, o.0.1))
   no_reading s h (told.Answered x, o, t) = absurd (h (o.0, o.1))
 
   -- a source's fault has its cause, and its line alone is written
-  pub source_fault : (s : Status) → s ≡ status.SourceFault → Ran s → Rose (source_faults a) (source_faults b) × Adds (holds k) (holds l) (codes "refused,SourceFault\n")
+  pub source_fault : (s : Status) → s ≡ status.SourceFault → Ran s → NamesReader words × Rose (source_faults a) (source_faults b) × Adds (holds k) (holds l) (codes "refused,SourceFault\n")
   source_fault s p (told.Usage, o, inl t) = let e = t.0 in cc (e, p)
   source_fault s p (told.NoMemory, o, inl t) = let e = t.0 in cc (e, p)
-  source_fault s p (told.SourceFault, o, inl t) = (o.2, t.1)
+  source_fault s p (told.SourceFault, o, inl t) = (o.0, o.2, t.1)
   source_fault s p (told.TooLong, o, inl t) = let e = t.0 in cc (e, p)
   source_fault s p (told.Answered x, o, inl t) = absurd (not_answered o.0 o.2 x s _ o.4 t.0 p refl)
   source_fault s p (x, o, inr t) = let e = t.0 in cc (e, p)
@@ -163,16 +179,16 @@ module _ {S K : Type 0} (left : S → Option (List ℕ)) (source_faults : S → 
   sink_faults_told s (x, o, inr t) = inr t.0
 
   -- an input is refused for its length, or by the command
-  pub refused : (s : Status) → s ≡ status.Refused → Ran s → (TakesExactly (left a) (left b) (most_input_bytes + 1) × Adds (holds k) (holds l) (codes "refused,TooLong\n")) ⊎ IsAnswered words (left a) (left b) (holds k) (holds l) status.Refused
+  pub refused : (s : Status) → s ≡ status.Refused → Ran s → (NamesReader words × TakesExactly (left a) (left b) (most_input_bytes + 1) × Adds (holds k) (holds l) (codes "refused,TooLong\n")) ⊎ IsAnswered left words a b (holds k) (holds l) status.Refused
   refused s p (told.Usage, o, inl t) = let e = t.0 in cc (e, p)
   refused s p (told.NoMemory, o, inl t) = let e = t.0 in cc (e, p)
   refused s p (told.SourceFault, o, inl t) = let e = t.0 in cc (e, p)
-  refused s p (told.TooLong, o, inl t) = inl (o.1, t.1)
+  refused s p (told.TooLong, o, inl t) = inl (o.0, o.1, t.1)
   refused s p (told.Answered x, o, inl t) = inr (o.0, o.1, o.2, o.3, (x, o.4, sym p ∙ t.0, t.1))
   refused s p (x, o, inr t) = let e = t.0 in cc (e, p)
 
-  -- a status that only answers have: the input was read to its end
-  told_answer : (s : Status) → is_of_answers_alone s ≡ true → Ran s → IsAnswered words (left a) (left b) (holds k) (holds l) s
+  -- a status that only answers have: what the command reads was read
+  told_answer : (s : Status) → is_of_answers_alone s ≡ true → Ran s → IsAnswered left words a b (holds k) (holds l) s
   told_answer s p (told.Usage, o, inl t) = let e : is_of_answers_alone s ≡ false = ap is_of_answers_alone t.0 in cc (e, p)
   told_answer s p (told.NoMemory, o, inl t) = let e : is_of_answers_alone s ≡ false = ap is_of_answers_alone t.0 in cc (e, p)
   told_answer s p (told.SourceFault, o, inl t) = let e : is_of_answers_alone s ≡ false = ap is_of_answers_alone t.0 in cc (e, p)
@@ -180,16 +196,16 @@ module _ {S K : Type 0} (left : S → Option (List ℕ)) (source_faults : S → 
   told_answer s p (told.Answered x, o, inl t) = (o.0, o.1, o.2, o.3, (x, o.4, t.0, t.1))
   told_answer s p (x, o, inr t) = let e : is_of_answers_alone s ≡ false = ap is_of_answers_alone t.0 in cc (e, p)
 
-  pub fine : (s : Status) → s ≡ status.Fine → Ran s → IsAnswered words (left a) (left b) (holds k) (holds l) status.Fine
-  fine s p r = subst (IsAnswered words (left a) (left b) (holds k) (holds l)) p (told_answer s (ap is_of_answers_alone p) r)
+  pub fine : (s : Status) → s ≡ status.Fine → Ran s → IsAnswered left words a b (holds k) (holds l) status.Fine
+  fine s p r = subst (IsAnswered left words a b (holds k) (holds l)) p (told_answer s (ap is_of_answers_alone p) r)
 
   one_of_both : (c : Command) → (c ≡ Check) ⊎ (c ≡ Report) → Names words c → Names words Check ⊎ Names words Report
   one_of_both c (inl e) h = inl (subst (Names words) e h)
   one_of_both c (inr e) h = inr (subst (Names words) e h)
 
-  pub certificate_refused : (s : Status) → s ≡ status.CertificateRefused → Ran s → (Names words Check ⊎ Names words Report) × IsAnswered words (left a) (left b) (holds k) (holds l) status.CertificateRefused
+  pub certificate_refused : (s : Status) → s ≡ status.CertificateRefused → Ran s → (Names words Check ⊎ Names words Report) × IsAnswered left words a b (holds k) (holds l) status.CertificateRefused
   certificate_refused s p r =
-      let h = subst (IsAnswered words (left a) (left b) (holds k) (holds l)) p (told_answer s (ap is_of_answers_alone p) r) in
+      let h = subst (IsAnswered left words a b (holds k) (holds l)) p (told_answer s (ap is_of_answers_alone p) r) in
       (one_of_both h.0 (by_check h.0 _ (answers_end h.0 h.2 h.4.0 h.4.1) (sym h.4.2)) h.1, h)
 
   -- of a bundle that was accepted, what `check` accepts was written
@@ -201,7 +217,7 @@ module _ {S K : Type 0} (left : S → Option (List ℕ)) (source_faults : S → 
       let e : status.Fine ≡ check_status x.0 = h.4.2 ∙ ap (λ (y : Answer). (answer_message y).status) x.1 in
       let t : Adds (holds k) (holds l) (check_text x.0) = subst (λ (y : Answer). Adds (holds k) (holds l) (answer_message y).text) x.1 h.4.3 in
       let i = accepted h.2 x.0 (holds k) (holds l) x.2 e t in
-      (h.2, h.3, i.0, i.1, i.2)
+      (h.2, was_read left h.0 a b h.2 (ap reads_input c) h.3, i.0, i.1, i.2)
 
   -- of a bundle that was accepted, its report was written
   pub reported : (s : Status) → s ≡ status.Fine → Names words Report → Ran s → TellsReport (left a) (left b) (holds k) (holds l)
@@ -212,14 +228,17 @@ module _ {S K : Type 0} (left : S → Option (List ℕ)) (source_faults : S → 
       let e : status.Fine ≡ report_status x.0 = h.4.2 ∙ ap (λ (y : Answer). (answer_message y).status) x.1 in
       let t : Adds (holds k) (holds l) (report_text x.0) = subst (λ (y : Answer). Adds (holds k) (holds l) (answer_message y).text) x.1 h.4.3 in
       let i = shown h.2 x.0 (holds k) (holds l) x.2 e t in
-      (h.2, h.3, i.0, i.1, i.2, i.3)
+      (h.2, was_read left h.0 a b h.2 (ap reads_input c) h.3, i.0, i.1, i.2, i.3)
 
-  -- a width is missed by `solve` alone
-  pub width_not_reached : (s : Status) → s ≡ status.WidthNotReached → Ran s → NamesSolve words × IsAnswered words (left a) (left b) (holds k) (holds l) status.WidthNotReached
+  searched : (c : Command) → IsSolve c ⊎ IsDemo c → Names words c → NamesSolve words ⊎ NamesDemo words
+  searched c (inl (o, e)) h = inl (o, subst (Names words) e h)
+  searched c (inr (n, e)) h = inr (n, subst (Names words) e h)
+
+  -- a width is missed by `solve` and `demo` alone
+  pub width_not_reached : (s : Status) → s ≡ status.WidthNotReached → Ran s → (NamesSolve words ⊎ NamesDemo words) × IsAnswered left words a b (holds k) (holds l) status.WidthNotReached
   width_not_reached s p r =
-      let h = subst (IsAnswered words (left a) (left b) (holds k) (holds l)) p (told_answer s (ap is_of_answers_alone p) r) in
-      let o : IsSolve h.0 = by_solve h.0 _ (answers_end h.0 h.2 h.4.0 h.4.1) (sym h.4.2) in
-      ((o.0, subst (Names words) o.1 h.1), h)
+      let h = subst (IsAnswered left words a b (holds k) (holds l)) p (told_answer s (ap is_of_answers_alone p) r) in
+      (searched h.0 (by_search h.0 _ (answers_end h.0 h.2 h.4.0 h.4.1) (sym h.4.2)) h.1, h)
 
   either : (s : Status) → (s ≡ status.Fine) ⊎ (s ≡ status.WidthNotReached) → is_of_answers_alone s ≡ true
   either s (inl e) = ap is_of_answers_alone e
@@ -235,7 +254,23 @@ module _ {S K : Type 0} (left : S → Option (List ℕ)) (source_faults : S → 
       let e : s ≡ solve_status x.0 = h.4.2 ∙ ap (λ (y : Answer). (answer_message y).status) x.1 in
       let t : Adds (holds k) (holds l) (solve_text x.0) = subst (λ (y : Answer). Adds (holds k) (holds l) (answer_message y).text) x.1 h.4.3 in
       let i = solved_bundle o h.2 x.0 s (holds k) (holds l) is_of_answers_alone (either s p) refl x.2 e t in
-      (h.2, h.3, i.0, i.1, i.2, i.3, i.4, i.5, i.6)
+      (h.2, was_read left h.0 a b h.2 (ap reads_input c) h.3, i.0, i.1, i.2, i.3, i.4, i.5, i.6)
+
+  -- of a demo its line is told, or that memory ran out, and the source is untouched
+  unread : (n : ℕ) → Names words (Demo n) → NamesReader words ⊎ (b ≡ a) → b ≡ a
+  unread n w (inl reads) = absurd (reader_alone words n reads w)
+  unread n w (inr same) = same
+
+  pub demonstrated : (s : Status) (n : ℕ) → Names words (Demo n) → Ran s → (b ≡ a) × TellsDemo holds sink_faults n k l s
+  demonstrated s n w (told.Usage, o, t) = absurd (o.0 (Demo n, w))
+  demonstrated s n w (told.NoMemory, o, t) = (unread n w o.0, inr t)
+  demonstrated s n w (told.SourceFault, o, t) = absurd (reader_alone words n o.0 w)
+  demonstrated s n w (told.TooLong, o, t) = absurd (reader_alone words n o.0 w)
+  demonstrated s n w (told.Answered x, o, t) =
+      let c : o.0 ≡ Demo n = one_command words o.0 (Demo n) o.1 w in
+      let r : Reads left (Demo n) a b o.2 = subst (λ (d : Command). Reads left d a b o.2) c o.3 in
+      let y : Answers (Demo n) o.2 x = subst (λ (d : Command). Answers d o.2 x) c o.4 in
+      (r.0, inl (y.0, y.2, subst (λ (z : Answer). Tells holds sink_faults (answer_message z) k l s) y.1 t))
 
 -- ---- what becomes of an input
 
@@ -262,10 +297,17 @@ module _ {S K : Type 0} (left : S → Option (List ℕ)) (source_faults : S → 
   too_short : (given : List ℕ) → IsRead (left a) (left b) given → most_input_bytes < length bytes → ⊥
   too_short given r h = let e = ap length (whole given r) in absurd (omega (arith, e, r.2, h))
 
-  answered_so : (c d : Command) (given : List ℕ) (x : Answer) → Names words c → Names words d → IsRead (left a) (left b) given → Answers d given x → Answers c bytes x
+  -- what was read are all its bytes, or a command answers to them what it answers to all
+  on_whole : (c : Command) (given : List ℕ) (x : Answer) → Reads left c a b given → Answers c given x → Answers c bytes x
+  on_whole Check given x r s = subst (λ (y : List ℕ). Answers Check y x) (sym (whole given r)) s
+  on_whole Report given x r s = subst (λ (y : List ℕ). Answers Report y x) (sym (whole given r)) s
+  on_whole (Solve o) given x r s = subst (λ (y : List ℕ). Answers (Solve o) y x) (sym (whole given r)) s
+  on_whole UValue given x r s = subst (λ (y : List ℕ). Answers UValue y x) (sym (whole given r)) s
+  on_whole (Demo n) given x r s = s
+
+  answered_so : (c d : Command) (given : List ℕ) (x : Answer) → Names words c → Names words d → Reads left d a b given → Answers d given x → Answers c bytes x
   answered_so c d given x h i r s =
-      let same : d ≡ c = one_command words d c i h in
-      subst (λ (y : List ℕ). Answers c y x) (sym (whole given r)) (subst (λ (y : Command). Answers y given x) same s)
+      subst (λ (y : Command). Answers y bytes x) (one_command words d c i h) (on_whole d given x r s)
 
   -- an input within the limit gets what the command answers to it, unless the run is interrupted
   pub answered : (s : Status) (c : Command) → Names words c → length bytes ≤ most_input_bytes → RanOn s → IsInterrupted s ⊎ TellsOf c bytes (holds k) (holds l) s
@@ -277,10 +319,10 @@ module _ {S K : Type 0} (left : S → Option (List ℕ)) (source_faults : S → 
   answered s c h m (x, o, inr t) = inl (inr (inr t.0))
 
   -- a longer one is refused, unless the run is interrupted
-  pub too_long : (s : Status) → HasReading words → most_input_bytes < length bytes → RanOn s → IsInterrupted s ⊎ ((s ≡ status.Refused) × Adds (holds k) (holds l) (codes "refused,TooLong\n"))
-  too_long s h m (told.Usage, o, inl t) = absurd (o.0 h)
+  pub too_long : (s : Status) → NamesReader words → most_input_bytes < length bytes → RanOn s → IsInterrupted s ⊎ ((s ≡ status.Refused) × Adds (holds k) (holds l) (codes "refused,TooLong\n"))
+  too_long s h m (told.Usage, o, inl t) = absurd (o.0 (h.0, h.1))
   too_long s h m (told.NoMemory, o, inl t) = inl (inl t.0)
   too_long s h m (told.SourceFault, o, inl t) = inl (inr (inl t.0))
   too_long s h m (told.TooLong, o, inl t) = inr (t.0, t.1)
-  too_long s h m (told.Answered x, o, inl t) = absurd (too_short o.2 o.3 m)
+  too_long s h m (told.Answered x, o, inl t) = absurd (too_short o.2 (was_read left o.0 a b o.2 (reader_reads words o.0 h o.1) o.3) m)
   too_long s h m (x, o, inr t) = inl (inr (inr t.0))

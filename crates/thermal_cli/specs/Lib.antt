@@ -7,5 +7,6 @@ pub mod Report
 pub mod Solve
 pub mod Solving
 pub mod UValue
+pub mod Demo
 pub mod Answers
 pub mod Outcome

@@ -1,5 +1,5 @@
 -- What a run tells: which text and which status belong to its words and to the bytes of its source.
-use Rattle.std.specs.Prelude.{◌≡◌, ◌≤◌, ◌+◌, ◌⊎◌, ◌++◌, ℕ, List, Option, Ok, length, take, codes}
+use Rattle.std.specs.Prelude.{◌≡◌, ◌≤◌, ◌+◌, ◌⊎◌, ◌++◌, ℕ, List, [], Option, Ok, length, take, codes}
 use Rattle.tb_outside.specs.Faults.{Rose, Stands}
 use Rattle.tb_outside.specs.Limits.{most_input_bytes}
 use Rattle.tb_outside.specs.Outside.{Adds, IsAtEnd, Takes, TakesAtMost, TakesExactly, WritesFront}
@@ -16,15 +16,17 @@ use Rattle.thermal_cli.specs.declared.status.Status.TheVariants as status
 use Rattle.thermal_cli.specs.declared.told.Told.{Told}
 use Rattle.thermal_cli.specs.declared.told.Told.TheVariants.{Usage, NoMemory, SourceFault, TooLong, Answered}
 use Rattle.thermal_cli.specs.declared.words.Command.{Command}
-use Rattle.thermal_cli.specs.declared.words.Command.TheVariants.{Solve}
+use Rattle.thermal_cli.specs.declared.demo.DemoAnswer.{DemoAnswer}
+use Rattle.thermal_cli.specs.declared.words.Command.TheVariants.{Demo}
 use Rattle.thermal_cli.specs.Answers.{Answers, answer_message}
 use Rattle.tb_report.specs.Sound.{HasSoundFigures}
 use Rattle.tb_report.specs.Texts as report
 use Rattle.thermal_cli.specs.Check.{Accepts, CheckAnswers, check_text}
+use Rattle.thermal_cli.specs.Demo.{DemoAnswers, demo_status, demo_text}
 use Rattle.thermal_cli.specs.Details.{detail_spelt}
 use Rattle.thermal_cli.specs.Messages.{Message, Tells}
 use Rattle.thermal_cli.specs.Solve.{IsAcceptedAs, IsSolvedTo, solved_status}
-use Rattle.thermal_cli.specs.Words.{HasReading, Names}
+use Rattle.thermal_cli.specs.Words.{HasReading, Names, NamesReader}
 
 -- ---- what is told
 
@@ -32,16 +34,28 @@ use Rattle.thermal_cli.specs.Words.{HasReading, Names}
 abbrev pub IsRead : (old new : Option (List ℕ)) → List ℕ → Type 0
 IsRead old new bytes = Takes old new bytes × IsAtEnd new × (length bytes ≤ most_input_bytes)
 
+-- These bytes were read by a command: `demo` reads none, and leaves the source as it is; every other command reads the
+-- source to its end
+abbrev pub Reads : {S : Type 0} → (S → Option (List ℕ)) → Command → (old new : S) → List ℕ → Type 0
+Reads left (Demo storeys) old new bytes = (new ≡ old) × (bytes ≡ [])
+Reads left c old new bytes = IsRead (left old) (left new) bytes
+
 -- What is told belongs to the words, and to the source before and after, which is told by the bytes that are left and
--- by its count of faults. Memory may run out at any time; words without a reading leave the source alone; a fault of
--- the source is told exactly where one was counted.
+-- by its count of faults. Memory may run out at any time; words that name no command that reads leave the source alone; a
+-- fault of the source is told exactly where one was counted.
 abbrev pub IsOutcome : {S : Type 0} → (S → Option (List ℕ)) → (S → ℕ) → (words : List (List ℕ)) (old new : S) → Told → Type 0
 IsOutcome left faults words old new Usage = (¬ HasReading words) × (new ≡ old)
-IsOutcome left faults words old new NoMemory = (HasReading words ⊎ (new ≡ old)) × TakesAtMost (left old) (left new) (most_input_bytes + 1) × Stands (faults old) (faults new)
-IsOutcome left faults words old new SourceFault = HasReading words × TakesAtMost (left old) (left new) most_input_bytes × Rose (faults old) (faults new)
-IsOutcome left faults words old new TooLong = HasReading words × TakesExactly (left old) (left new) (most_input_bytes + 1) × Stands (faults old) (faults new)
+IsOutcome left faults words old new NoMemory = (NamesReader words ⊎ (new ≡ old)) × TakesAtMost (left old) (left new) (most_input_bytes + 1) × Stands (faults old) (faults new)
+IsOutcome left faults words old new SourceFault = NamesReader words × TakesAtMost (left old) (left new) most_input_bytes × Rose (faults old) (faults new)
+IsOutcome left faults words old new TooLong = NamesReader words × TakesExactly (left old) (left new) (most_input_bytes + 1) × Stands (faults old) (faults new)
 IsOutcome left faults words old new (Answered a) =
-    (c : Command) × Names words c × (bytes : List ℕ) × IsRead (left old) (left new) bytes × Answers c bytes a × Stands (faults old) (faults new)
+    (c : Command) × Names words c × (bytes : List ℕ) × Reads left c old new bytes × Answers c bytes a × Stands (faults old) (faults new)
+
+-- a command tells this of the bytes that it read: what it answers, or that memory ran out
+abbrev pub TellsFrom : Command → List ℕ → Told → Type 0
+TellsFrom c bytes (Answered a) = Answers c bytes a
+TellsFrom c bytes NoMemory = Unit {0}
+TellsFrom c bytes t = ⊥
 
 -- its text and its status
 abbrev pub told_message : Told → Message
@@ -73,10 +87,10 @@ abbrev pub TellsOf : Command → List ℕ → (holds_old holds_new : Option (Lis
 TellsOf c bytes holds_old holds_new s =
     (a : Answer) × Answers c bytes a × (s ≡ (answer_message a).status) × Adds holds_old holds_new (answer_message a).text
 
--- the source was read to its end, and what the command answers to its bytes was written whole
-abbrev pub IsAnswered : (words : List (List ℕ)) (left_old left_new holds_old holds_new : Option (List ℕ)) → Status → Type 0
-IsAnswered words left_old left_new holds_old holds_new s =
-    (c : Command) × Names words c × (bytes : List ℕ) × IsRead left_old left_new bytes × TellsOf c bytes holds_old holds_new s
+-- what the command reads was read, and what it answers to these bytes was written whole
+abbrev pub IsAnswered : {S : Type 0} → (S → Option (List ℕ)) → (words : List (List ℕ)) (source_old source_new : S) (holds_old holds_new : Option (List ℕ)) → Status → Type 0
+IsAnswered left words source_old source_new holds_old holds_new s =
+    (c : Command) × Names words c × (bytes : List ℕ) × Reads left c source_old source_new bytes × TellsOf c bytes holds_old holds_new s
 
 -- the source was read to its end, `check` accepts its bytes as a bundle, and the intervals that it thereby certifies were
 -- written
@@ -106,6 +120,8 @@ TellsSolved o left_old left_new holds_old holds_new s =
     (bytes : List ℕ) × IsRead left_old left_new bytes × (d : Detail) × (detail_spelt bytes ≡ Ok d) × (b : Bundle) × IsSolvedTo o d b
     × IsAcceptedAs (bundle_text b) b × (s ≡ solved_status b) × Adds holds_old holds_new (bundle_text b)
 
--- the words are `solve` with options
-abbrev pub NamesSolve : List (List ℕ) → Type 0
-NamesSolve words = (o : SolveOptions) × Names words (Solve o)
+-- What is told of a demo is its line, or that memory ran out: it was written whole, or a front of it, as `Tells` says
+abbrev pub TellsDemo : {K : Type 0} → (K → Option (List ℕ)) → (K → ℕ) → ℕ → (old new : K) → Status → Type 0
+TellsDemo holds faults storeys old new s =
+    ((a : DemoAnswer) × DemoAnswers storeys a × Tells holds faults (record { text = demo_text a; status = demo_status a }) old new s)
+    ⊎ Tells holds faults (told_message NoMemory) old new s

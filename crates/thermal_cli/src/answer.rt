@@ -7,6 +7,7 @@ ghost use Rattle.thermal_cli.specs.Words.{HasRanges};
 
 use crate::Status;
 use crate::check::{CheckAnswer, check};
+use crate::demo::{DemoAnswer, demo};
 use crate::message::tell_text;
 use crate::report::{ReportAnswer, report};
 use crate::solve::{SolveAnswer, solve};
@@ -16,16 +17,17 @@ use std::alloc::Global;
 use tb_outside::Sink;
 use tb_records::NoMemory;
 
-/// What a command answers to its input.
+/// What a command answers.
 #[derive(Drop)]
 pub enum Answer {
     Check(CheckAnswer),
     Report(ReportAnswer),
     Solve(SolveAnswer),
     UValue(UValueAnswer),
+    Demo(DemoAnswer),
 }
 
-/// What a command answers to these bytes, of which there are at most 268,435,456.
+/// What a command answers to the bytes that it read, at most 268,435,456. `demo` reads none.
 pub fn answer_to(alloc: Global, command: Command, bytes: &[u8]) -> Result<Answer, NoMemory>
     requires input { length bytes.now ≤ most_input_bytes }
     requires ranges { HasRanges command }
@@ -36,6 +38,7 @@ pub fn answer_to(alloc: Global, command: Command, bytes: &[u8]) -> Result<Answer
         Command::Report => Ok(Answer::Report(report(alloc, bytes)?)),
         Command::Solve(options) => Ok(Answer::Solve(solve(alloc, options, bytes)?)),
         Command::UValue => Ok(Answer::UValue(uvalue(alloc, bytes)?)),
+        Command::Demo(storeys) => Ok(Answer::Demo(demo(alloc, storeys)?)),
     }
 }
 
@@ -48,5 +51,6 @@ pub fn tell_answer<K: Sink>(sink: &mut K, answer: &Answer) -> Status
         Answer::Report(answer) => tell_text(sink, answer, answer.status()),
         Answer::Solve(answer) => tell_text(sink, answer, answer.status()),
         Answer::UValue(answer) => tell_text(sink, answer, answer.status()),
+        Answer::Demo(answer) => tell_text(sink, answer, answer.status()),
     }
 }

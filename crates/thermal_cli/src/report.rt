@@ -96,8 +96,8 @@ fn bytes_of(name: &Name) -> &[u8]
     &name.bytes
 }
 
-// The body of a detail that has one.
-fn body_of(alloc: Global, detail: &Detail) -> Result<Body, NoMemory>
+/// The body of a detail that has one.
+pub(crate) fn body_of(alloc: Global, detail: &Detail) -> Result<Body, NoMemory>
     requires limits { InLimits detail.now }
     requires accepted { IsAccepted detail.now }
     ensures { IfOk result (λ body. body ≡ detail.now) }

@@ -138,23 +138,35 @@ report -h|2 refused,Usage;\n\
 reports|2 refused,Usage;\n\
 uvalues|2 refused,Usage;\n\
 solv|2 refused,Usage;\n\
-demo 1|2 refused,Usage;\n\
+demo|2 refused,Usage;\n\
+demo 0|2 refused,Usage;\n\
+demo 17|2 refused,Usage;\n\
+demo -1|2 refused,Usage;\n\
+demo 1 2|2 refused,Usage;\n\
+demo --width 5|2 refused,Usage;\n\
+demo --help|2 refused,Usage;\n\
+demos 1|2 refused,Usage;\n\
 --help|2 refused,Usage;";
 
-// What a run tells of words and these bytes into a sink with this room: the exit code, a space and the text. The words
-// stand between spaces, and one may be empty; no text is no word.
-pub(crate) fn told(
-    alloc: Global,
-    text: &str,
-    bytes: Vec<u8>,
-    room: usize,
-) -> Result<Vec<u8>, AllocError> {
+// The words that stand between spaces, of which one may be empty; no text is no word.
+pub(crate) fn words_of(alloc: Global, text: &str) -> Result<Vec<String>, AllocError> {
     let mut words = Vec::new(alloc);
     if !text.is_empty() {
         for word in text.split(' ') {
             words.push(String::from_str(alloc, word)?)?;
         }
     }
+    Ok(words)
+}
+
+// What a run tells of these words and bytes into a sink with this room: the exit code, a space and the text.
+pub(crate) fn told(
+    alloc: Global,
+    text: &str,
+    bytes: Vec<u8>,
+    room: usize,
+) -> Result<Vec<u8>, AllocError> {
+    let words = words_of(alloc, text)?;
     let mut source = SteadySource::new(bytes);
     let Ok(mut sink) = MemorySink::new(alloc, room, Vec::new(alloc)) else {
         return Err(AllocError);
@@ -187,7 +199,7 @@ fn change<'a>(changes: &'a str, number: usize) -> Option<&'a str> {
 }
 
 // The input of a case: the bundle for `check` and `report`, else the detail, with these changes.
-fn input(alloc: Global, words: &str, changes: &str) -> Result<Vec<u8>, AllocError> {
+pub(crate) fn input(alloc: Global, words: &str, changes: &str) -> Result<Vec<u8>, AllocError> {
     let example = if words.starts_with("check") || words.starts_with("report") {
         BUNDLE
     } else {

@@ -19,7 +19,9 @@ const CORNER: &str = "detail,1,2\nenv,inside\nenv,outside\nmat,masonry,0.6\nmat,
 air,outside,0.04,0,0.1,0,1300.1\nair,outside,0.04,0.1,1300.1,0,0.1\n\
 solid,insulation,0.1,100.1,0.1,1300.1\nsolid,insulation,100.1,1300.1,0.1,100.1\n\
 solid,masonry,100.1,300.1,100.1,1300.1\nsolid,masonry,300.1,1300.1,100.1,300.1\n\
-air,inside,0.13,300.1,1300.1,300.1,1300.1\n";
+air,inside,0.13,300.1,1300.1,300.1,1300.1\n\
+part,wall,0.13,0.04\nlayer,wall,200,masonry\nlayer,wall,100,insulation\n\
+psi,corner,inside,outside\nlength,corner,wall,1300\nlength,corner,wall,1300\n";
 
 // A wall between a room and the outside, and a stair that no solid touches.
 const STAIR: &str = "detail,1,3\nenv,room\nenv,stair\nenv,outside\nmat,wall,1\n\
@@ -27,7 +29,7 @@ solid,wall,0.1,200.1,0,1000,0,1000\nair,room,0.13,0,0.1,0,1000,0,1000\n\
 air,outside,0.04,200.1,200.2,0,1000,0,1000\nair,stair,0.13,200.2,200.3,0,1000,0,1000\n";
 
 // What stands behind the first place of these bytes in a text; nothing where they don't stand in it.
-fn behind<'a>(text: &'a [u8], part: &[u8]) -> &'a [u8] {
+pub(crate) fn behind<'a>(text: &'a [u8], part: &[u8]) -> &'a [u8] {
     for start in 0..text.len() {
         let rest = text.get(start..).unwrap_or(b"");
         if rest.starts_with(part) {
@@ -38,7 +40,7 @@ fn behind<'a>(text: &'a [u8], part: &[u8]) -> &'a [u8] {
 }
 
 // The bytes before the first of this kind.
-fn before(text: &[u8], end: u8) -> &[u8] {
+pub(crate) fn before(text: &[u8], end: u8) -> &[u8] {
     for (place, byte) in text.iter().enumerate() {
         if *byte == end {
             return text.get(..place).unwrap_or(b"");
@@ -53,10 +55,15 @@ fn solved(alloc: Global, words: &str, detail: &str) -> Result<Vec<u8>, AllocErro
     told(alloc, words, detail, 1_000_000)
 }
 
-// What `check` tells of a bundle that a run of `solve` told.
-fn checked(alloc: Global, found: &[u8]) -> Result<Vec<u8>, AllocError> {
+// What a command tells of a bundle that a run of `solve` told.
+fn read_by(alloc: Global, words: &str, found: &[u8]) -> Result<Vec<u8>, AllocError> {
     let bundle = Vec::from_slice(alloc, found.get(2..).unwrap_or(b""))?;
-    told(alloc, "check", bundle, 1000)
+    told(alloc, words, bundle, 1000)
+}
+
+// What `check` tells of it.
+fn checked(alloc: Global, found: &[u8]) -> Result<Vec<u8>, AllocError> {
+    read_by(alloc, "check", found)
 }
 
 // The two ends of the first interval of a bundle.
@@ -76,7 +83,7 @@ fn is_accepted(alloc: Global, found: &[u8]) -> Result<bool, AllocError> {
 }
 
 // Whether these lines stand in a text, one behind the other.
-fn has_lines(text: &[u8], lines: &str) -> bool {
+pub(crate) fn has_lines(text: &[u8], lines: &str) -> bool {
     let mut rest = text;
     for line in lines.lines() {
         rest = behind(rest, line.as_bytes());
@@ -85,6 +92,12 @@ fn has_lines(text: &[u8], lines: &str) -> bool {
         }
     }
     true
+}
+
+// How many cells an axis has in the first grid of a bundle.
+fn cells_along(found: &[u8], axis: &[u8]) -> usize {
+    let lines = before(behind(found, axis), b'\n');
+    lines.iter().filter(|byte| **byte == b',').count()
 }
 
 #[test]
@@ -118,7 +131,8 @@ fn a_strip_wants_more_than_a_plain_pass(rt: HostRuntime) -> Result<(), Fail> {
     Ok(())
 }
 
-// Two grids tell intervals of the same heat flow.
+// Two grids tell intervals of the same heat flow. Between its base lines an axis has 0.1 mm, which stay whole, and three
+// intervals of 16 pieces. The wall has 0.17 + 0.2/0.6 + 0.1/0.04 = 3.003333 m²K/W, so U = 0.3329634.
 #[test]
 fn a_corner_on_two_grids(rt: HostRuntime) -> Result<(), Fail> {
     let alloc = rt.alloc();
@@ -130,6 +144,12 @@ fn a_corner_on_two_grids(rt: HostRuntime) -> Result<(), Fail> {
     let (coarse_lo, coarse_hi) = ends(coarse.as_slice()).ok_or("no interval")?;
     assert!(rt; lo <= hi && hi.saturating_sub(lo) <= 100_000_000_000_000);
     assert!(rt; lo <= coarse_hi && coarse_lo <= hi);
+    assert!(rt; cells_along(found.as_slice(), b"\nx,") == 49);
+    assert!(rt; cells_along(found.as_slice(), b"\ny,") == 49);
+    assert!(rt; cells_along(found.as_slice(), b"\nz,") == 1);
+    let report = read_by(alloc, "report", found.as_slice())?;
+    assert!(rt; report.starts_with(b"0 report,1\ncase,inside,0."));
+    assert!(rt; has_lines(report.as_slice(), "U,wall,0.332963,0.332964"));
     Ok(())
 }
 

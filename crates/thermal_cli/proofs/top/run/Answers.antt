@@ -5,9 +5,9 @@ use Rattle.tb_outside.specs.Outside.{Adds}
 use Rattle.thermal_cli.specs.declared.status.Status.TheVariants as status
 use Rattle.thermal_cli.specs.declared.words.Command.{Command}
 use Rattle.thermal_cli.specs.Outcome.{IsInterrupted, Runs, TellsOf}
-use Rattle.thermal_cli.specs.Words.{HasReading, Names}
+use Rattle.thermal_cli.specs.Words.{Names, NamesReader}
 use Rattle.thermal_cli.proofs.Fronts.{certified_front}
-use Rattle.thermal_cli.proofs.Runs.{answered, certificate_refused, certified, fine, no_memory, no_reading, refused, reported, sink_fault, sink_faults_told, source_fault, source_faults_told, solved, too_long, usage_words, width_not_reached}
+use Rattle.thermal_cli.proofs.Runs.{answered, certificate_refused, certified, demonstrated, fine, no_memory, no_reading, refused, reported, sink_fault, sink_faults_told, source_fault, source_faults_told, solved, too_long, usage_words, width_not_reached}
 use Rattle.thermal_cli.proofs.top.run.Goals as goal
 
 known : {A : Type 0} (P : A → Type 0) (o : Option A) → ((x : A) → o ≡ Some x → P x) → IfSome o P
@@ -36,13 +36,14 @@ returns g c =
       sink_faults_told = sink_faults_told left f holds e w a b k l s r;
       no_memory = λ p. no_memory left f holds e w a b k l s p r;
       refused = λ p. refused left f holds e w a b k l s p r;
-      too_long = known (λ bytes. HasReading w → most_input_bytes < length bytes → IsInterrupted s ⊎ ((s ≡ status.Refused) × Adds (holds k) (holds l) (codes "refused,TooLong\n"))) (left a) (λ bytes t h m. too_long left f holds e w a b k l bytes t s h m r);
+      too_long = known (λ bytes. NamesReader w → most_input_bytes < length bytes → IsInterrupted s ⊎ ((s ≡ status.Refused) × Adds (holds k) (holds l) (codes "refused,TooLong\n"))) (left a) (λ bytes t h m. too_long left f holds e w a b k l bytes t s h m r);
       answered = known (λ bytes. (d : Command) → Names w d → length bytes ≤ most_input_bytes → IsInterrupted s ⊎ TellsOf d bytes (holds k) (holds l) s) (left a) (λ bytes t d h m. answered left f holds e w a b k l bytes t s d h m r);
       fine = λ p. fine left f holds e w a b k l s p r;
       certified = λ p q. certified left f holds e w a b k l s p q r;
       reported = λ p q. reported left f holds e w a b k l s p q r;
       certified_front = λ p q. certified_front left f w a b (holds k) (holds l) q (sink_fault left f holds e w a b k l s p r).1;
       solved = λ p o q. solved left f holds e w a b k l s p o q r;
+      demonstrated = λ n q. demonstrated left f holds e w a b k l s n q r;
       width_not_reached = λ p. width_not_reached left f holds e w a b k l s p r;
       certificate_refused = λ p. certificate_refused left f holds e w a b k l s p r;
     }

@@ -1,7 +1,7 @@
-use Rattle.tb_geometry.specs.Grids.{mesh_on}
-use Rattle.tb_flux.specs.Fluxes.{flux_on}
-use Rattle.tb_flux.proofs.Firsts.{KeepsHeatBelow}
+use Rattle.tb_places.specs.Places.{cell_number, place_at}
+use Rattle.tb_grid.specs.Grid.{counts_of}
+use Rattle.tb_flux.specs.Walks.{IsKeptBelow}
 use Rattle.tb_flux.proofs.flux.Flux.first_unbalanced.Given as goal
 
-abbrev pub invariant-loop-number : goal.invariant-loop-number
-invariant-loop-number l = KeepsHeatBelow (mesh_on l.body l.grid) (flux_on l.grid l.fn.self) l.number
+abbrev pub invariant-loop-k : goal.invariant-loop-k
+invariant-loop-k l = IsKeptBelow l.body l.grid l.fn.self (cell_number (counts_of l.grid) (place_at 0 0 l.k))

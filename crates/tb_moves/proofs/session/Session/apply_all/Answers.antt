@@ -6,6 +6,8 @@ use Rattle.tb_moves.specs.declared.moves.Move.{Move}
 use Rattle.tb_moves.specs.declared.moves.Move.TheVariants.{Node}
 use Rattle.tb_moves.specs.Moves.{AreMoves}
 use Rattle.tb_moves.specs.Sessions.{inside_of, mesh_of, state_of}
+use Rattle.tb_costs.proofs.Filling.{body_fills}
+use Rattle.tb_moves.proofs.Leaving.{list_leaves}
 use Rattle.tb_moves.proofs.Applying.{alike_trans, has_there, neither, one_more}
 use Rattle.tb_moves.proofs.session.Session.apply_all.Goals.{then-apply, else-apply}
 use Rattle.tb_moves.proofs.session.Session.apply_all.Goals as goal
@@ -28,3 +30,13 @@ returns-clause-moved c =
     let end : c.loop-i.i ≡ length c.args.moves.now = omega arith in
     subst (λ (l : List Move). AreMoves (mesh_of c.args.self.now) (inside_of c.args.self.now) l (state_of c.args.self.now) (state_of c.loop-i.self) c.loop-i.changed)
     (ap (λ (n : ℕ). take n c.args.moves.now) end ∙ take-length c.args.moves.now) c.loop-i.invariant.made
+
+pub returns-clause-leaves : goal.returns-clause-leaves
+returns-clause-leaves c =
+    let s = c.args.self.now in
+    let end : c.loop-i.i ≡ length c.args.moves.now = omega arith in
+    let made : AreMoves (mesh_of s) (inside_of s) c.args.moves.now (state_of s) (state_of c.loop-i.self) c.loop-i.changed =
+    subst (λ (l : List Move). AreMoves (mesh_of s) (inside_of s) l (state_of s) (state_of c.loop-i.self) c.loop-i.changed)
+    (ap (λ (n : ℕ). take n c.args.moves.now) end ∙ take-length c.args.moves.now) c.loop-i.invariant.made in
+    list_leaves (mesh_of s) (inside_of s) (body_fills s.body s.grid c.keeps_state.ensures.accepted c.keeps_state.ensures.carries)
+    c.args.moves.now (state_of s) (state_of c.loop-i.self) c.loop-i.changed c.requires made c.keeps_state.ensures.state

@@ -2,7 +2,9 @@ use Rattle.std.proofs.Common.{subst}
 use Rattle.tb_grid.specs.Views.{along_axes}
 use Rattle.tb_outlets.specs.Balancing.{side_at}
 use Rattle.tb_outlets.specs.Searching.{distance_at}
+use Rattle.tb_model.specs.Values.{flux_of}
 use Rattle.tb_outlets.proofs.Repaired.{one_repair}
+use Rattle.tb_outlets.proofs.RepairedFluxes.{one_repaired_flux}
 use Rattle.tb_trees.specs.Bodies.{BodyOnGrid, KeepsTree, mesh_of}
 use Rattle.tb_trees.proofs.Kept.{faces_kept, kept_counts, passable_kept, slice_passes, tree_kept}
 use Rattle.tb_trees.proofs.tree.OutletTree.repair_values.Goals as goal
@@ -48,3 +50,11 @@ returns-clause-one c =
     let n = along_axes inside.counts in
     let keeps = subst (λ (b : BodyOnGrid). KeepsTree b n inside.tree.marks.items inside.tree.sides.items inside.tree.order.items inside.passable.items inside.solid.items) c.self.view_is c.self.invariant in
     λ v w first second. one_repair (mesh_of c.args.self.now) c.args.given.now v w (side_at inside.tree.sides.items) (distance_at inside.tree.marks.items) keeps.tree.outlets keeps.tree.distances first second
+
+pub returns-clause-one_flux : goal.returns-clause-one_flux
+returns-clause-one_flux c =
+    let inside = c.self.inside in
+    let n = along_axes inside.counts in
+    let keeps = subst (λ (b : BodyOnGrid). KeepsTree b n inside.tree.marks.items inside.tree.sides.items inside.tree.order.items inside.passable.items inside.solid.items) c.self.view_is c.self.invariant in
+    let m = mesh_of c.args.self.now in
+    λ q r first second a p within. one_repaired_flux m (flux_of m.cells c.args.given.now) q r (side_at inside.tree.sides.items) (distance_at inside.tree.marks.items) keeps.tree.outlets keeps.tree.distances first second a p within

@@ -1,0 +1,7 @@
+use Rattle.tb_places.specs.Places.{cell_number, place_at}
+use Rattle.tb_grid.specs.Grid.{counts_of}
+use Rattle.tb_flux.specs.Walks.{IsKeptBelow}
+use Rattle.tb_flux.proofs.flux.Flux.unbalanced_in_row.Given as goal
+
+abbrev pub invariant-loop-i : goal.invariant-loop-i
+invariant-loop-i l = IsKeptBelow l.body l.grid l.fn.self (cell_number (counts_of l.grid) (place_at l.i l.j l.k))
