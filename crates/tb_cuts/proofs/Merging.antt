@@ -136,7 +136,7 @@ module _ (s : Scene) where
           let ed : get_or (r.lines a) at_d.0 0 ≡ d = get_or_default (r.lines a) at_d.0 0 d ld ∙ at_d.2 in
           located_from (r.lines a) q at_d.0 (omega arith) (omega arith) ld (omega arith)
 
-  line_refined : (r : Refinement) → Refines s r → (a : AxisName) (q : ℕ) → IsWithin s r.scale a q → Refined r (relined a (with_line q (r.lines a)) r)
+  pub line_refined : (r : Refinement) → Refines s r → (a : AxisName) (q : ℕ) → IsWithin s r.scale a q → Refined r (relined a (with_line q (r.lines a)) r)
   line_refined r refines a q hull = by_place (find_place r refines a q hull)
     where
       by_place : Located (r.lines a) q → Refined r (relined a (with_line q (r.lines a)) r)

@@ -6,7 +6,7 @@
 //! So fields and fluxes on two refinements of a body both stand on the refinement that has all lines of both.
 #![tactic(auto)]
 
-ghost use Rattle.std.specs.Prelude.{◌≡◌, ◌-◌, ◌<◌, ℕ, suc, length, pos};
+ghost use Rattle.std.specs.Prelude.{◌≡◌, ◌-◌, ◌*◌, ◌<◌, ◌≤◌, ℕ, suc, length, pos, Any};
 ghost use Rattle.tb_math.specs.Rational.{ℚ, ratio, ◌+ℚ◌, ◌*ℚ◌, ◌<ℚ◌};
 ghost use Rattle.tb_places.specs.declared.AxisName.{AxisName};
 ghost use Rattle.tb_places.specs.declared.AxisName.TheVariants.{X, Y};
@@ -15,7 +15,7 @@ ghost use Rattle.tb_model.specs.Energy.{Case, Field, Flux, IsBalanced, energy, b
 ghost use Rattle.tb_places.specs.Lines.{with_line};
 ghost use Rattle.tb_model.specs.Merges.{relined, rescaled, merged, Carries};
 ghost use Rattle.tb_model.specs.Mesh.{Mesh};
-ghost use Rattle.tb_model.specs.Refinement.{Scene, Refinement, Refines, line, mesh};
+ghost use Rattle.tb_model.specs.Refinement.{Scene, Refinement, Refines, high, line, low, mesh};
 ghost use Rattle.tb_cuts.specs.Corner.{corner, warm_beside, corner_field, corner_flux, half, quarter, halved_flux};
 
 /// The terms of the two parts of a cell, and of a surface face, add up to that of the whole. Along the axis of the cut the
@@ -86,6 +86,14 @@ pub fn more_lines_cut_the_mesh()
 pub fn rescaling_keeps_the_mesh()
     ensures refines { (s : Scene) (r : Refinement) (k : ℕ) → 0 < k → Refines s r → Refines s (rescaled k r) }
     ensures mesh { (s : Scene) (r : Refinement) (k : ℕ) → 0 < k → mesh s (rescaled k r) ≡ mesh s r }
+{}
+
+/// A refinement with one line more on an axis, between the least and the greatest coordinate of the boxes, is a
+/// refinement.
+pub fn lines_refine()
+    ensures { (s : Scene) (r : Refinement) (a : AxisName) (q : ℕ) → Refines s r
+        → Any (λ b. r.scale * low a b ≤ q) s.boxes → Any (λ b. q ≤ r.scale * high a b) s.boxes
+        → Refines s (relined a (with_line q (r.lines a)) r) }
 {}
 
 /// The refinement with all lines of two is a refinement, and the same either way round. So the fields and fluxes of

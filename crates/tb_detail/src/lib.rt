@@ -28,7 +28,7 @@ mod tests;
 pub use limits::{
     FLAT_HEIGHT, MOST_AREA, MOST_BOXES, MOST_CONDUCTIVITY, MOST_ENVIRONMENTS, MOST_LAYERS,
     MOST_LENGTH, MOST_NAME_BYTES, MOST_NAMES, MOST_PSI, MOST_RESISTANCE, MOST_SECTION,
-    MOST_SECTIONS, MOST_TERMS,
+    MOST_SECTIONS, MOST_TERMS, limits_are_stated,
 };
 pub use names::is_name;
 pub use quantity::Quantity;

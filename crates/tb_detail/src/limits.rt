@@ -1,5 +1,5 @@
 // The greatest numbers and counts, and which details are within limits.
-ghost use Rattle.std.specs.Prelude.{◌↔◌, ◌<◌, ◌≤◌, IsTrue, All};
+ghost use Rattle.std.specs.Prelude.{◌≡◌, ◌↔◌, ◌<◌, ◌≤◌, IsTrue, All};
 ghost use Rattle.tb_detail.specs.Limits.{AreAllNamed, AreFew, BoxInLimits, ChiInLimits, ContentInLimits, InLimits, IsExtent, IsPair, LayerInLimits, LineInLimits, LinesInLimits, PartInLimits, PsiInLimits, SpanInLimits, SuitsDimension, TermInLimits, TermsInLimits, name_count};
 ghost use Rattle.tb_detail.specs.Quantities.{IsInRange};
 
@@ -51,6 +51,15 @@ pub const MOST_TERMS: usize = 16;
 
 /// The greatest number of bytes of a name.
 pub const MOST_NAME_BYTES: usize = 32;
+
+/// The limits as numbers. The definitions of limits name the constants above, so without this a changed constant would
+/// change what they say.
+pub fn limits_are_stated()
+    ensures numbers { (MOST_LENGTH ≡ 500000) × (MOST_CONDUCTIVITY ≡ 5000000) × (MOST_RESISTANCE ≡ 100000)
+        × (MOST_SECTION ≡ 1000000) × (MOST_AREA ≡ 100000000) × (MOST_PSI ≡ 1000000000) × (FLAT_HEIGHT ≡ 10000) }
+    ensures counts { (MOST_ENVIRONMENTS ≡ 4) × (MOST_BOXES ≡ 512) × (MOST_NAMES ≡ 256) × (MOST_SECTIONS ≡ 4)
+        × (MOST_LAYERS ≡ 16) × (MOST_TERMS ≡ 16) × (MOST_NAME_BYTES ≡ 32) }
+{}
 
 // ---- the dimension, names and counts
 

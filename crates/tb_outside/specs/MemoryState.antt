@@ -1,6 +1,13 @@
--- A sink in memory as contracts see it.
+-- A source and a sink in memory as contracts see them.
 use Rattle.std.specs.Prelude.{◌⊎◌, ◌<◌, ◌≤◌, ℕ, List, length, Contains}
 use Rattle.tb_outside.specs.Faults.{counted_up}
+
+-- the bytes that are left; the numbers of the calls that fail, from 1, and how many calls there were; how many failed
+pub record MemoryBytes : Type 0 where
+  pub left : List ℕ
+  pub fails : List ℕ
+  pub calls : ℕ
+  pub faults : ℕ
 
 -- the bytes written so far and how many there is room for in all; the numbers of the calls that fail, from 1, and how many calls there were; how many failed
 pub record MemoryState : Type 0 where

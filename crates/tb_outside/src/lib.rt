@@ -16,7 +16,7 @@ mod tests;
 mod text;
 
 pub use buffer::{BUFFER_SIZE, OutputBuffer};
-pub use memory::{MemorySink, SteadySource};
+pub use memory::{MemorySink, MemorySource, SteadySource};
 pub use sink::{Sink, SinkFault, put_all};
 pub use source::{InFault, Source, read_all};
 pub use stream::{StdSink, StdSource};

@@ -1,5 +1,5 @@
 // A source and a sink in memory.
-ghost use Rattle.std.specs.Prelude.{◌≡◌, ◌-◌, ◌↔◌, min, [], length, Some, take, IfOk, IsErr};
+ghost use Rattle.std.specs.Prelude.{◌≡◌, ◌-◌, ◌↔◌, min, [], length, Some, take, Contains, IfOk, IsErr};
 ghost use Rattle.tb_outside.specs.Faults.{TellsFaults, counted_up, faults_after};
 ghost use Rattle.tb_outside.specs.Outside.{Puts, Reads};
 ghost use Rattle.tb_outside.specs.MemoryState.{MustFail};
@@ -45,6 +45,81 @@ impl Source for SteadySource {
         ensures faults { TellsFaults 0 0 result }
         ensures gives { result ≡ Ok (min (length buf.old) (length self.old)) }
     {
+        let n = copy_front(&self.bytes[self.at..], buf);
+        self.at += n;
+        Ok(n)
+    }
+}
+
+/// Bytes in memory. It fails at calls that are chosen beforehand, counted from 1. Contracts see it as a `MemoryBytes`.
+#[derive(Debug, Drop)]
+pub struct MemorySource {
+    bytes: Vec<u8>,
+    at: usize,
+    fails: Vec<u64>,
+    calls: u64,
+    faults: u64,
+}
+
+impl Model for MemorySource {
+    ghost use Rattle.std.specs.Prelude.{drop, vec_len, ◌≤◌};
+    ghost use Rattle.tb_outside.specs.MemoryState.{MemoryBytes};
+
+    ghost Value = { MemoryBytes };
+
+    ghost view = { λ s. record {
+      left = drop s.at s.bytes.items;
+      fails = s.fails.items;
+      calls = s.calls;
+      faults = s.faults;
+    } };
+
+    ghost invariant = { λ s. s.at ≤ vec_len s.bytes };
+}
+
+impl MemorySource {
+    /// A source of these bytes, which fails at the calls of these numbers, from 1.
+    pub fn new(bytes: Vec<u8>, fails: Vec<u64>) -> MemorySource
+        ensures { result ≡ record {
+          left = bytes.items;
+          fails = fails.items;
+          calls = 0;
+          faults = 0;
+        } }
+    {
+        MemorySource {
+            bytes,
+            at: 0,
+            fails,
+            calls: 0,
+            faults: 0,
+        }
+    }
+}
+
+impl Source for MemorySource {
+    ghost left = { λ s. Some s.left };
+
+    ghost faults = { λ s. s.faults };
+
+    /// Gives as many bytes as there are and as fit.
+    fn read(&mut self, buf: &mut [u8]) -> Result<usize, Failed>
+        ensures reads { Reads (Some self.old.left) (Some self.new.left) buf.new result }
+        ensures faults { TellsFaults self.old.faults self.new.faults result }
+
+        // It fails exactly where it must.
+        ensures failed { IsErr result ↔ Contains self.old.fails (counted_up self.old.calls) }
+        ensures gives { IfOk result (λ n. n ≡ min (length buf.old) (length self.old.left)) }
+
+        ensures count { self.new.faults ≡ faults_after self.old.faults result }
+        ensures calls { self.new.calls ≡ counted_up self.old.calls }
+        ensures same { self.new.fails ≡ self.old.fails }
+    {
+        self.calls = self.calls.saturating_add(1);
+        if self.fails.contains(&self.calls) {
+            self.faults = self.faults.saturating_add(1);
+            return Err(Failed);
+        }
         let n = copy_front(&self.bytes[self.at..], buf);
         self.at += n;
         Ok(n)

@@ -42,50 +42,39 @@ fn a_source_is_read_to_its_end_or_past_the_limit(rt: HostRuntime) -> Result<(), 
     Ok(())
 }
 
-// Gives one byte at each of eight calls, unless it fails at one.
-#[derive(Drop)]
-struct Flaky {
-    calls: u64,
-    fails: u64,
-    faults: u64,
-}
-
-impl Source for Flaky {
-    ghost left = { λ _. None };
-
-    ghost faults = { λ s. s.faults };
-
-    fn read(&mut self, buf: &mut [u8]) -> Result<usize, Failed> {
-        self.calls = self.calls.saturating_add(1);
-        if self.calls == self.fails {
-            self.faults = self.faults.saturating_add(1);
-            return Err(Failed);
-        }
-        match buf.first_mut() {
-            Some(byte) if self.calls < 9 => {
-                *byte = b'x';
-                Ok(1)
-            }
-            _ => Ok(0),
-        }
-    }
-}
-
+// A call at which the source has to fail ends the reading, and one past the last isn't made.
 #[test]
 fn a_fault_of_the_source_is_told(rt: HostRuntime) -> Result<(), Fail> {
-    for (fails, wanted) in [(1, None), (5, None), (9, None), (10, Some(8))] {
-        let mut source = Flaky {
-            calls: 0,
-            fails,
-            faults: 0,
-        };
-        match read_all(rt.alloc(), &mut source, 100) {
+    for (fails, wanted) in [(1, None), (2, None), (3, None), (4, None), (5, Some(9000))] {
+        let bytes = counted_bytes(rt.alloc(), 9000)?;
+        let mut source = MemorySource::new(bytes, vec![in rt.alloc(); fails]?);
+        match read_all(rt.alloc(), &mut source, 9000) {
             Ok(bytes) => assert_eq!(rt; Some(bytes.len()), wanted),
             Err(fault) => {
                 assert_eq!(rt; fault, InFault::SourceFault);
                 assert_eq!(rt; wanted, None);
             }
         }
+    }
+    Ok(())
+}
+
+#[test]
+fn a_source_in_memory_fails_where_it_is_told_to(rt: HostRuntime) -> Result<(), Fail> {
+    let fails = vec![in rt.alloc(); 2, 5]?;
+    let mut source = MemorySource::new(vec![in rt.alloc(); 10, 11, 12, 13, 14]?, fails);
+    let mut buf = [0; 3];
+    let calls = [
+        (Ok(3), [10, 11, 12]),
+        (Err(Failed), [10, 11, 12]),
+        (Ok(2), [13, 14, 12]),
+        (Ok(0), [13, 14, 12]),
+        (Err(Failed), [13, 14, 12]),
+        (Ok(0), [13, 14, 12]),
+    ];
+    for (wanted, held) in calls {
+        assert_eq!(rt; source.read(&mut buf), wanted);
+        assert_eq!(rt; buf, held);
     }
     Ok(())
 }
