@@ -5,7 +5,7 @@ ghost use Rattle.tb_cg.specs.Limits.{IsTemperature};
 use crate::form::Form;
 use crate::points::Points;
 use tb_gradients::{Entry, Operator, Solver};
-use tb_grid::{CellCounts, NodeId};
+use tb_grid::{AxisName, CellCounts, NodeId, Place};
 
 /// The temperature 1, in 10⁻⁸ of the difference.
 pub const MOST_TEMPERATURE: i64 = 100_000_000;
@@ -69,17 +69,66 @@ fn is_out(found: Entry) -> bool {
     found.value() < 0 || found.value() > WARM
 }
 
+// Makes a row of a field of what was found: the row begins at this node, and at this place.
+fn write_row(
+    points: Points,
+    counts: CellCounts,
+    found: &[Entry],
+    place: usize,
+    node: usize,
+    field: &mut [i64],
+) -> bool
+    ensures { All IsTemperature field.old → All IsTemperature field.new }
+{
+    let stride = points.stride(AxisName::X).places;
+    let mut at = place;
+    let mut is_cut = false;
+    for i in 0..nodes_of(counts.x) {
+        let value = found.get(at).copied().unwrap_or(Entry::ZERO);
+        set(field, node.saturating_add(i), value);
+        is_cut |= is_out(value);
+        at = at.saturating_add(stride);
+    }
+    is_cut
+}
+
+// Makes a layer of a field, which begins at this node.
+fn write_layer(
+    points: Points,
+    counts: CellCounts,
+    found: &[Entry],
+    k: u32,
+    first: usize,
+    field: &mut [i64],
+) -> bool
+    ensures { All IsTemperature field.old → All IsTemperature field.new }
+{
+    let mut node = first;
+    let mut is_cut = false;
+    for j in 0..counts.y.saturating_add(1) {
+        let place = points.at(Place { i: 0, j, k });
+        is_cut |= write_row(points, counts, found, place, node, field);
+        node = node.saturating_add(nodes_of(counts.x));
+    }
+    is_cut
+}
+
+// How many nodes stand along an axis with so many cells.
+fn nodes_of(cells: u32) -> usize {
+    (cells as usize).saturating_add(1)
+}
+
 /// Makes a field of what a descent found: the temperatures are rounded, and from 0 to 10⁸. Tells whether some of them were
 /// out of that range.
 pub fn write_found(points: Points, counts: CellCounts, found: &[Entry], field: &mut [i64]) -> bool
     ensures { All IsTemperature field.old → All IsTemperature field.new }
 {
+    let layer = nodes_of(counts.x).saturating_mul(nodes_of(counts.y));
+    let mut node = 0;
     let mut is_cut = false;
-    for number in 0..counts.nodes() {
-        let at = points.at(counts.node_place(NodeId(number)));
-        let value = found.get(at).copied().unwrap_or(Entry::ZERO);
-        set(field, number as usize, value);
-        is_cut |= is_out(value);
+    for k in 0..counts.z.saturating_add(1) {
+        is_cut |= write_layer(points, counts, found, k, node, field);
+        node = node.saturating_add(layer);
     }
     is_cut
 }

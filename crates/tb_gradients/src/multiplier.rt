@@ -1,5 +1,5 @@
 // Numbers by which a whole vector is multiplied.
-ghost use Rattle.std.specs.Prelude.{◌^◌, ◌≤◌, unsigned_abs};
+ghost use Rattle.std.specs.Prelude.{◌^◌, ◌≤◌, IsTrue, unsigned_abs};
 
 use crate::entry::Entry;
 
@@ -158,6 +158,22 @@ impl PowerOfTwo {
         ensures { unsigned_abs result ≤ 2 ^ 113 }
     {
         i128::from(self.value) * i128::from(entry.value())
+    }
+
+    /// Whether it is at most 2⁸.
+    pub fn is_small(self) -> bool
+        ensures { IsTrue result → unsigned_abs self.value ≤ 2 ^ 8 }
+    {
+        self.value >= 0 && self.value <= 1 << 8
+    }
+
+    /// The product of a small one with a value.
+    #[inline(always)]
+    pub fn times_little(self, entry: Entry) -> i64
+        requires { unsigned_abs self.value ≤ 2 ^ 8 }
+        ensures { unsigned_abs result ≤ 2 ^ 61 }
+    {
+        entry.value() * self.value
     }
 
     /// The product with a value, where it fits a word.
