@@ -15,6 +15,9 @@ const MOST_SERIES: u32 = 125;
 
 const SERIES: u32 = 16;
 
+// A series is worth another one where it gained at least this part of the width that is left.
+const LEAST_PART: i128 = 1_024;
+
 // A round on the flux costs about as much as so many on the field, and one more for so many steps of its solution.
 const FLUX_COST: i128 = 3;
 
@@ -24,7 +27,8 @@ const STEPS_OF_A_COST: i128 = 3;
 const FLUX_LEFT: i128 = 4;
 
 // What the next round of each kind promises for the cost of one on the field, in fW/K: what the last one on the field gained, and
-// what the last one on the flux left, by its cost. It is 0 where such a round gains no more. What wasn't tried yet promises most.
+// what the last one on the flux left, by its cost. It is 0 where such a round gains no more, or too little. What wasn't tried yet
+// promises most.
 #[derive(Clone, Copy)]
 struct Promises {
     field: i128,
@@ -53,6 +57,20 @@ fn flux_cost(steps: u32) -> i128
     FLUX_COST + i128::from(steps) / STEPS_OF_A_COST
 }
 
+// What the next round on the flux promises for the cost of one on the field. It isn't worth its time, and promises nothing, where
+// that is less than what each round of a series has to gain.
+fn flux_promise(before: i128, after: i128, steps: u32) -> i128
+    requires before { unsigned_abs before ≤ 2 ^ 122 }
+    requires after { unsigned_abs after ≤ 2 ^ 122 }
+{
+    let promise = gain(before, after) / FLUX_LEFT / flux_cost(steps);
+    if promise < after / LEAST_PART / i128::from(SERIES) {
+        0
+    } else {
+        promise
+    }
+}
+
 // Makes a round of the kind that promises more.
 fn make_round(session: &mut Session, work: &mut CgWork, promises: &mut Promises)
     requires made { work.old ≡ site_of session.old }
@@ -62,9 +80,7 @@ fn make_round(session: &mut Session, work: &mut CgWork, promises: &mut Promises)
     let before = present_width(session);
     if promises.flux >= promises.field {
         flux_round(session, work);
-        promises.flux = gain(before, present_width(session))
-            / FLUX_LEFT
-            / flux_cost(work.flux_steps());
+        promises.flux = flux_promise(before, present_width(session), work.flux_steps());
     } else {
         field_round(session, work);
         promises.field = gain(before, present_width(session));
@@ -99,7 +115,7 @@ fn make_series(
         make_round(session, work, promises);
     }
     let after = present_width(session);
-    gain(before, after) >= after / 1_024
+    gain(before, after) >= after / LEAST_PART
 }
 
 // Makes series until none is worth it.
