@@ -11,17 +11,15 @@ use tb_cg::{
     write_found,
 };
 use tb_geometry::{Body, Case};
-use tb_gradients::{Matrix, Solver};
+use tb_gradients::{Entry, Matrix, Outcome, SOLUTION_EXPONENT, Solver};
 use tb_grid::Grid;
 
 // What the matrix and the solver hold.
 #[derive(Clone, Copy, Debug, PartialEq, Eq)]
 enum Stage {
     New,
-    // The cells' system and its solution.
+    // The cells' system and its solution, whose field wasn't written yet.
     Cells,
-    // The same, after the field that it gives was written.
-    Started,
     // A descent of a field, after so many steps.
     Descent { steps: u32 },
     // Nothing that a call could go on from.
@@ -37,8 +35,9 @@ const NODE_SHARE: u16 = 992;
 // The most steps of a solution of the cells' system.
 const MOST_STEPS: u32 = 3_000;
 
-// How accurate a solution is, in bits, and one that goes on from another.
-const ACCURACY: u8 = 20;
+// How accurate a solution is, in bits, and one that goes on from another. What is left of the residual is carried along the
+// outlets.
+const ACCURACY: u8 = 16;
 
 const FURTHER_ACCURACY: u8 = 12;
 
@@ -65,6 +64,15 @@ fn go_beyond(present: &[i64], flows: &mut [i64])
     }
 }
 
+// Keeps what was found.
+fn keep(found: &[Entry], kept: &mut [Entry]) {
+    for i in 0..kept.len() {
+        if i < found.len() {
+            kept[i] = found[i];
+        }
+    }
+}
+
 /// Candidates for a body on a grid in a case, with all the memory that they need but for the lists of the candidates.
 #[derive(Drop)]
 pub struct Candidates {
@@ -76,6 +84,11 @@ pub struct Candidates {
     // Of the couplings of the cells' system.
     scale: i32,
     stage: Stage,
+    // The cells' temperatures by the last solution of their system, at their places: zeros before the first.
+    temperatures: Vec<Entry>,
+    is_solved: bool,
+    // Of the last solution.
+    steps: u32,
 }
 
 impl Candidates {
@@ -105,12 +118,27 @@ impl Candidates {
             solver: Solver::new(alloc, points.layout)?,
             scale,
             stage: Stage::New,
+            temperatures: vec![in alloc; Entry::ZERO; points.layout.places()]?,
+            is_solved: false,
+            steps: 0,
         }))
+    }
+
+    // Solves the cells' system from its last solution.
+    fn go_on(&mut self) -> Option<Outcome> {
+        self.solver.clear_solution(SOLUTION_EXPONENT);
+        for at in 0..self.temperatures.len() {
+            self.solver.set_solution(at, self.temperatures[at])?;
+        }
+        self.solver.resume(&self.matrix)?;
+        Some(
+            self.solver
+                .go_on(&self.matrix, &self.matrix, MOST_STEPS, FURTHER_ACCURACY),
+        )
     }
 
     // Makes the cells' system beside a present flux and solves it, from the last solution if there is one.
     fn solve(&mut self, present: &[i64]) -> Option<()> {
-        let goes_on = self.has_temperatures();
         self.stage = Stage::Ended;
         couple_cells(
             self.table.cells(),
@@ -121,39 +149,43 @@ impl Candidates {
             &mut self.solver,
         )?;
         self.matrix.finish(CELL_SHARE)?;
-        if goes_on {
-            self.solver.resume(&self.matrix)?;
-            let _outcome = self
-                .solver
-                .go_on(&self.matrix, &self.matrix, MOST_STEPS, FURTHER_ACCURACY);
+        let outcome = if self.is_solved {
+            self.go_on()?
         } else {
-            let _outcome = self
-                .solver
-                .solve(&self.matrix, &self.matrix, MOST_STEPS, ACCURACY);
-        }
+            self.solver
+                .solve(&self.matrix, &self.matrix, MOST_STEPS, ACCURACY)
+        };
+        keep(self.solver.solution(), self.temperatures.as_mut_slice());
+        self.is_solved = true;
+        self.steps = outcome.steps;
         self.stage = Stage::Cells;
         Some(())
     }
 
-    // Whether the solver holds the cells' temperatures.
-    fn has_temperatures(&self) -> bool {
-        self.stage == Stage::Cells || self.stage == Stage::Started
+    /// How many steps the last solution of the cells' system took: what the last flux cost.
+    pub fn steps(&self) -> u32 {
+        self.steps
     }
 
     /// Writes the flux of the cells' temperatures beside a present flux, which it should better: flows in the index order of
-    /// faces, in nW per unit difference, balanced but for the rounding. Right after another one, which the present flux then
-    /// should be, it goes beyond, since it is half a step. False where a number didn't fit.
+    /// faces, in nW per unit difference, balanced but for the rounding. One after another, which the present flux then should
+    /// be, starts from its temperatures and goes beyond, since it is half a step. False where a number didn't fit.
     pub fn write_flux(&mut self, present: &[i64], flows: &mut [i64]) -> bool
         ensures { AreFlows flows.new }
     {
         flows.fill(0);
-        let goes_on = self.has_temperatures();
+        let goes_on = self.is_solved;
         if self.solve(present).is_none() {
             return false;
         }
-        let temperatures = self.solver.solution();
-        let cells = self.table.cells();
-        face_flows(cells, self.points, temperatures, self.scale, present, flows);
+        face_flows(
+            self.table.cells(),
+            self.points,
+            self.solver.solution(),
+            self.scale,
+            present,
+            flows,
+        );
         if goes_on {
             go_beyond(present, flows);
         }
@@ -167,22 +199,22 @@ impl Candidates {
     }
 
     /// Writes the field that the cells' temperatures give: node temperatures in the index order of nodes, in 10⁻⁸ of the
-    /// difference. The system is solved for it unless the last call was [`write_flux`](Candidates::write_flux). False where
-    /// a number didn't fit.
+    /// difference. The system is solved for it unless [`write_flux`](Candidates::write_flux) did that before. False where a
+    /// number didn't fit.
     pub fn write_start(&mut self, field: &mut [i64]) -> bool
         ensures { AreTemperatures field.new }
     {
         field.fill(0);
-        if !self.has_temperatures() && self.solve(&[]).is_none() {
+        if !self.is_solved && self.solve(&[]).is_none() {
             return false;
         }
         start_field(
             self.table.cells(),
             self.points,
-            self.solver.solution(),
+            self.temperatures.as_slice(),
             field,
         );
-        self.stage = Stage::Started;
+        self.stage = Stage::Ended;
         true
     }
 

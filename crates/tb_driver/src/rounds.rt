@@ -1,5 +1,5 @@
 // Conjugate-gradient rounds.
-ghost use Rattle.std.specs.Prelude.{◌≡◌, ◌^◌, ◌≤◌, IfOk, unsigned_abs};
+ghost use Rattle.std.specs.Prelude.{◌≡◌, ◌^◌, ◌≤◌, pos, ◌≤ℤ◌, IfOk, unsigned_abs};
 ghost use Rattle.tb_moves.specs.Sessions.{AreAlike};
 ghost use Rattle.tb_rounds.specs.Rounds.{site_of};
 ghost use Rattle.tb_driver.specs.Solved.{AreSmall};
@@ -15,11 +15,16 @@ const MOST_SERIES: u32 = 125;
 
 const SERIES: u32 = 16;
 
-// A round on the flux costs about as much as so many on the field.
-const FLUX_COST: i128 = 8;
+// A round on the flux costs about as much as so many on the field, and one more for so many steps of its solution.
+const FLUX_COST: i128 = 3;
 
-// What the last round of each kind gained, in fW/K, the flux's by its cost: 0 where such a round gains no more. What wasn't
-// tried yet promises most.
+const STEPS_OF_A_COST: i128 = 3;
+
+// What a round on the flux leaves for the next one is about this part of what it gained.
+const FLUX_LEFT: i128 = 4;
+
+// What the next round of each kind promises for the cost of one on the field, in fW/K: what the last one on the field gained, and
+// what the last one on the flux left, by its cost. It is 0 where such a round gains no more. What wasn't tried yet promises most.
 #[derive(Clone, Copy)]
 struct Promises {
     field: i128,
@@ -41,6 +46,13 @@ fn gain(before: i128, after: i128) -> i128
     before - after
 }
 
+// What a round on the flux costs, in rounds on the field, if the last one's solution took so many steps.
+fn flux_cost(steps: u32) -> i128
+    ensures { pos 1 ≤ℤ result }
+{
+    FLUX_COST + i128::from(steps) / STEPS_OF_A_COST
+}
+
 // Makes a round of the kind that promises more.
 fn make_round(session: &mut Session, work: &mut CgWork, promises: &mut Promises)
     requires made { work.old ≡ site_of session.old }
@@ -50,7 +62,9 @@ fn make_round(session: &mut Session, work: &mut CgWork, promises: &mut Promises)
     let before = present_width(session);
     if promises.flux >= promises.field {
         flux_round(session, work);
-        promises.flux = gain(before, present_width(session)) / FLUX_COST;
+        promises.flux = gain(before, present_width(session))
+            / FLUX_LEFT
+            / flux_cost(work.flux_steps());
     } else {
         field_round(session, work);
         promises.field = gain(before, present_width(session));

@@ -26,7 +26,7 @@ pub of_one : (d : Detail) (p : Part) (lo hi : ℤ) → sections p ≡ 1 → lo �
 unfolding answer error is_ratio_above transmittance
 of_one d p lo hi one e f = rw (one, e, f) refl
 
-several : (p : Part) → sections p ≢ 1 → (sections p == 1) ≡ false
+pub several : (p : Part) → sections p ≢ 1 → (sections p == 1) ≡ false
 several p h = grind (arith, nat_tests)
 
 pub refused : (d : Detail) (p : Part) → sections p ≢ 1 → int_lt (pos 3 *ℤ (lower_limit d p).high) (pos 2 *ℤ (upper_limit d p).low) ≡ true

@@ -36,10 +36,10 @@ conductivity_positive d n l s h k b =
     let same = get_or-map (λ (m : Material). m.lambda) d.materials (get_or l.materials s 0) no_material 0 known in
     omega (arith, same, range.low)
 
-layer_limits : (d : Detail) (p : Part) (j : ℕ) → HasPart d p → j < layers p → LayerInLimits d (sections p) (layer p j)
+pub layer_limits : (d : Detail) (p : Part) (j : ℕ) → HasPart d p → j < layers p → LayerInLimits d (sections p) (layer p j)
 layer_limits d p j h b = All-get_or (LayerInLimits d (sections p)) p.layers j no_layer b h.part.layers
 
-area_positive : (d : Detail) (p : Part) (s : ℕ) → HasPart d p → s < sections p → 0 < area p s
+pub area_positive : (d : Detail) (p : Part) (s : ℕ) → HasPart d p → s < sections p → 0 < area p s
 area_positive d p s h b = let r = All-get_or (IsInRange quantity.Section) p.areas s 0 b h.part.areas in omega (arith, r.low)
 
 -- a sum of some numbers above 0

@@ -89,7 +89,7 @@ below_over : (x n q : ℚ) → int (pos 0) <ℚ q → x *ℚ q ≤ℚ n → x �
 below_over x n q h l = subst (λ (t : ℚ). x ≤ℚ t) (*ℚ_comm (inverse q) n)
     (subst (λ (t : ℚ). t ≤ℚ inverse q *ℚ n) (back x q h) (≤ℚ-mul (inverse q) (x *ℚ q) n (inverse-nonneg q (<ℚ-≤ (int (pos 0)) q h)) l))
 
-above_over : (x n q : ℚ) → int (pos 0) <ℚ q → n ≤ℚ x *ℚ q → n /ℚ q ≤ℚ x
+pub above_over : (x n q : ℚ) → int (pos 0) <ℚ q → n ≤ℚ x *ℚ q → n /ℚ q ≤ℚ x
 above_over x n q h l = subst (λ (t : ℚ). t ≤ℚ x) (*ℚ_comm (inverse q) n)
     (subst (λ (t : ℚ). inverse q *ℚ n ≤ℚ t) (back x q h) (≤ℚ-mul (inverse q) n (x *ℚ q) (inverse-nonneg q (<ℚ-≤ (int (pos 0)) q h)) l))
 

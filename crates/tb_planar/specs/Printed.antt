@@ -3,7 +3,7 @@ use Rattle.std.specs.Prelude.{◌==◌, ◌≢◌, ℕ, ◌+◌, ◌*◌, ◌^�
 use Rattle.tb_detail.specs.declared.Detail.{Detail}
 use Rattle.tb_detail.specs.declared.Layer.{Layer}
 use Rattle.tb_detail.specs.declared.Part.{Part}
-use Rattle.tb_math.specs.Rational.{ℚ, int, ◌*ℚ◌}
+use Rattle.tb_math.specs.Rational.{ℚ, int, ◌*ℚ◌, ◌≤ℚ◌}
 use Rattle.tb_numbers.specs.Quotients.{ceiling}
 use Rattle.tb_planar.specs.declared.PlanarU.{PlanarU}
 use Rattle.tb_planar.specs.declared.URange.{URange}
@@ -76,6 +76,10 @@ HoldsTransmittance u q = Encloses (record { low = u.lo; high = u.hi }) (int (pos
 -- a resistance in m²K/W lies between two whole numbers of 10⁻¹⁶ m²K/W
 abbrev pub HoldsResistance : Bounds → ℚ → Type 0
 HoldsResistance b q = Encloses b (int (pos (10 ^ 16)) *ℚ q)
+
+-- a relative error isn't above a whole number of 10⁻⁴
+abbrev pub HoldsError : ℤ → ℚ → Type 0
+HoldsError e q = int (pos (10 ^ 4)) *ℚ q ≤ℚ int e
 
 abbrev pub IsRange : URange → Type 0
 IsRange u = IsTransmittance (record { low = u.lo; high = u.hi })

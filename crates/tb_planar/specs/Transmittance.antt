@@ -4,7 +4,7 @@ use Rattle.tb_detail.specs.declared.Detail.{Detail}
 use Rattle.tb_detail.specs.declared.Layer.{Layer}
 use Rattle.tb_detail.specs.declared.Part.{Part}
 use Rattle.tb_math.specs.Division.{inverse, ◌/ℚ◌}
-use Rattle.tb_math.specs.Rational.{ℚ, ratio, one_over, ◌+ℚ◌, ◌*ℚ◌}
+use Rattle.tb_math.specs.Rational.{ℚ, int, ratio, one_over, ◌+ℚ◌, ◌-ℚ◌, ◌*ℚ◌}
 use Rattle.tb_math.specs.Sums.{total}
 use Rattle.tb_planar.specs.Sections.{area, conductivity, layer, layers, sections, total_area}
 
@@ -44,3 +44,8 @@ total_resistance d p =
 -- U
 unfoldable pub transmittance : Detail → Part → ℚ
 transmittance d p = inverse (total_resistance d p)
+
+-- the greatest relative error of the method: half the difference of the limits over their mean; none for one section
+unfoldable pub relative_error : Detail → Part → ℚ
+relative_error d p =
+    if sections p == 1 then int (pos 0) else (upper_limit d p -ℚ lower_limit d p) /ℚ (upper_limit d p +ℚ lower_limit d p)

@@ -10,7 +10,7 @@ mod sections;
 #[cfg(test)]
 mod tests;
 
-pub use part::{first_ratio_above, planar};
+pub use part::{first_ratio_above, limits_are_ordered, planar};
 
 /// A thermal transmittance between two whole numbers, in fW/(m²·K).
 #[derive(Clone, Copy, Debug, PartialEq, Eq)]

@@ -1,10 +1,12 @@
 // The transmittance of a part.
 ghost use Rattle.std.specs.Prelude.{◌≡◌, ◌^◌, ◌*◌, ◌<◌, ◌≤◌, ◌≢◌, ◌↔◌, ℕ, Some, IfOk, IsErr, Ok, length, pos, ◌≤ℤ◌, position, slice_get};
 ghost use Rattle.tb_detail.specs.Limits.{InLimits};
+ghost use Rattle.tb_detail.specs.declared.Detail.{Detail};
 ghost use Rattle.tb_detail.specs.declared.Part.{Part};
+ghost use Rattle.tb_math.specs.Rational.{◌≤ℚ◌};
 ghost use Rattle.tb_planar.specs.Bounds.{IsResistance, IsTransmittance, IsWithin};
 ghost use Rattle.tb_planar.specs.Parts.{HasLayer, HasPart, HasSections};
-ghost use Rattle.tb_planar.specs.Printed.{HoldsResistance, HoldsTransmittance, IsRange, IsRatioAbove, answer, is_ratio_above, layer_across, layer_in_section, lower_limit, mean_transmittance, relative_error, section_resistance, section_transmittance, surfaces, upper_limit};
+ghost use Rattle.tb_planar.specs.Printed.{HoldsError, HoldsResistance, HoldsTransmittance, IsRange, IsRatioAbove, answer, is_ratio_above, layer_across, layer_in_section, lower_limit, mean_transmittance, relative_error, section_resistance, section_transmittance, surfaces, upper_limit};
 ghost use Rattle.tb_planar.specs.Sections.{sections};
 ghost use Rattle.tb_planar.specs.Transmittance as exact;
 
@@ -122,6 +124,7 @@ fn of_one_section(detail: &Detail, part: &Part) -> PlanarU
     requires one { sections part.now ≡ 1 }
     ensures answer { Ok result ≡ answer detail.now part.now }
     ensures encloses { HoldsTransmittance result.u (exact.transmittance detail.now part.now) }
+    ensures error { HoldsError result.error (exact.relative_error detail.now part.now) }
     ensures size { IsRange result.u }
 {
     let u = section_transmittance(detail, part, 0);
@@ -147,6 +150,7 @@ fn of_several_sections(detail: &Detail, part: &Part) -> Result<PlanarU, RatioAbo
     requires several { sections part.now ≢ 1 }
     ensures answer { result ≡ answer detail.now part.now }
     ensures encloses { IfOk result (λ printed. HoldsTransmittance printed.u (exact.transmittance detail.now part.now)) }
+    ensures error { IfOk result (λ printed. HoldsError printed.error (exact.relative_error detail.now part.now)) }
     ensures size { IfOk result (λ printed. IsRange printed.u) }
 {
     let upper = upper_limit(detail, part);
@@ -168,6 +172,7 @@ fn of_part(detail: &Detail, part: &Part) -> Result<PlanarU, RatioAbove>
     requires { HasPart detail.now part.now }
     ensures answer { result ≡ answer detail.now part.now }
     ensures encloses { IfOk result (λ printed. HoldsTransmittance printed.u (exact.transmittance detail.now part.now)) }
+    ensures error { IfOk result (λ printed. HoldsError printed.error (exact.relative_error detail.now part.now)) }
     ensures size { IfOk result (λ printed. IsRange printed.u) }
 {
     if areas(part).len() == 1 {
@@ -186,18 +191,26 @@ pub(crate) fn parts(detail: &Detail) -> &[Part]
 /// What is printed of the part in a place of a detail, or that the ratio of the limits of its resistance is
 /// above 1.5. A part of one section is never refused.
 ///
-/// The transmittance U of ISO 6946:2017, a rational number, lies between both printed ends.
+/// The transmittance U of ISO 6946:2017, a rational number, lies between both printed ends, and the greatest relative error of
+/// the method, half the difference of the limits over their mean, isn't above the printed one.
 pub fn planar(detail: &Detail, part: u16) -> Result<PlanarU, RatioAbove>
     requires limits { InLimits detail.now }
     requires known { part < length detail.now.parts }
     ensures answer { (p : Part) → slice_get detail.now.parts part ≡ Some p → result ≡ answer detail.now p }
     ensures encloses { (p : Part) → slice_get detail.now.parts part ≡ Some p
         → IfOk result (λ printed. HoldsTransmittance printed.u (exact.transmittance detail.now p)) }
+    ensures error { (p : Part) → slice_get detail.now.parts part ≡ Some p
+        → IfOk result (λ printed. HoldsError printed.error (exact.relative_error detail.now p)) }
     ensures refused { (p : Part) → slice_get detail.now.parts part ≡ Some p → IsErr result ↔ IsRatioAbove detail.now p }
     ensures size { IfOk result (λ printed. IsRange printed.u) }
 {
     of_part(detail, &parts(detail)[usize::from(part)])
 }
+
+/// The lower limit of a part's resistance isn't above the upper one.
+pub fn limits_are_ordered()
+    ensures { (d : Detail) (p : Part) → HasPart d p → exact.lower_limit d p ≤ℚ exact.upper_limit d p }
+{}
 
 /// The first part of a detail that `planar` refuses.
 pub fn first_ratio_above(detail: &Detail) -> Option<u16>

@@ -65,4 +65,15 @@ impl CgWork {
             is_flux_found: false,
         })
     }
+
+    /// How many steps the last solution for a flux took: 0 where a round on the flux solves for none any more.
+    pub fn flux_steps(&self) -> u32 {
+        if self.is_flux_found {
+            return 0;
+        }
+        match &self.candidates {
+            Some(candidates) => candidates.steps(),
+            None => 0,
+        }
+    }
 }

@@ -11,8 +11,8 @@ use Rattle.tb_planar.specs.declared.PlanarU.{PlanarU}
 use Rattle.tb_planar.specs.declared.RatioAbove.{RatioAbove}
 use Rattle.tb_planar.specs.declared.URange.{URange}
 use Rattle.tb_planar.specs.Bounds.{Encloses, divided}
-use Rattle.tb_planar.specs.Printed.{HoldsTransmittance, answer}
-use Rattle.tb_planar.specs.Transmittance.{transmittance}
+use Rattle.tb_planar.specs.Printed.{HoldsError, HoldsTransmittance, answer}
+use Rattle.tb_planar.specs.Transmittance.{relative_error, transmittance}
 use Rattle.tb_planar.proofs.Enclosing.{divided-encloses}
 use Rattle.tb_uvalues.specs.Answers.{HasUValue, HaveUValues, HoldsPrinted, IsPartAt}
 use Rattle.tb_uvalues.specs.Texts.{line, line_of, printed_range}
@@ -33,9 +33,9 @@ printed-holds u q h =
 
 -- what `planar` answers of a part
 pub printed : (d : Detail) (p : Part) (r : Result PlanarU RatioAbove) → r ≡ answer d p → IfOk r (λ v. HoldsTransmittance v.u (transmittance d p))
-    → IfOk r (λ v. HasUValue d p)
-printed d p (Ok v) e h = record { value = v; is = sym e; encloses = printed-holds v.u (transmittance d p) h }
-printed d p (Err x) e h = tt
+    → IfOk r (λ v. HoldsError v.error (relative_error d p)) → IfOk r (λ v. HasUValue d p)
+printed d p (Ok v) e h k = record { value = v; is = sym e; encloses = printed-holds v.u (transmittance d p) h; error = k }
+printed d p (Err x) e h k = tt
 
 -- a part that isn't refused
 pub unrefused : (P : Type 0) (r : Result PlanarU RatioAbove) → is_err r ≡ false → IfOk r (λ v. P) → P

@@ -6,8 +6,8 @@ use Rattle.tb_math.specs.Rational.{ℚ, int, ◌*ℚ◌}
 use Rattle.tb_planar.specs.declared.PlanarU.{PlanarU}
 use Rattle.tb_planar.specs.declared.URange.{URange}
 use Rattle.tb_planar.specs.Bounds.{Encloses}
-use Rattle.tb_planar.specs.Printed.{IsRatioAbove, answer}
-use Rattle.tb_planar.specs.Transmittance.{transmittance}
+use Rattle.tb_planar.specs.Printed.{HoldsError, IsRatioAbove, answer}
+use Rattle.tb_planar.specs.Transmittance.{relative_error, transmittance}
 use Rattle.tb_uvalues.specs.declared.fault.UValueFault.{UValueFault}
 use Rattle.tb_uvalues.specs.declared.fault.UValueRefusal.{UValueRefusal}
 use Rattle.tb_uvalues.specs.declared.fault.UValueRefusal.TheVariants.{Fault, NoMemory}
@@ -21,11 +21,13 @@ IsPartAt d n p = slice_get d.parts n ≡ Some p
 abbrev pub HoldsPrinted : URange → ℚ → Type 0
 HoldsPrinted u q = Encloses (record { low = u.lo; high = u.hi }) (int (pos (10 ^ 6)) *ℚ q)
 
--- a part isn't refused, and its transmittance lies between the ends that are printed
+-- a part isn't refused, its transmittance lies between the ends that are printed, and the greatest relative error of the method
+-- isn't above the printed one
 pub record HasUValue (d : Detail) (p : Part) : Type 0 where
   pub value : PlanarU
   pub is : answer d p ≡ Ok value
   pub encloses : HoldsPrinted (printed_range value.u) (transmittance d p)
+  pub error : HoldsError value.error (relative_error d p)
 
 abbrev pub HaveUValues : Detail → Type 0
 HaveUValues d = (n : ℕ) (p : Part) → IsPartAt d n p → HasUValue d p

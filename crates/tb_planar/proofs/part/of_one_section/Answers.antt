@@ -4,6 +4,7 @@ use Rattle.tb_planar.specs.Sections.{sections}
 use Rattle.tb_planar.proofs.Answering.{exact_one, of_one, stored_ends}
 use Rattle.tb_planar.proofs.Conducting.{are_positive, conducts}
 use Rattle.tb_planar.proofs.Parts.{section_transmittance-encloses}
+use Rattle.tb_planar.proofs.Errors.{exact_error_one}
 use Rattle.tb_planar.proofs.part.of_one_section.Goals as goal
 
 pub returns-clause-answer : goal.returns-clause-answer
@@ -25,3 +26,6 @@ returns-clause-encloses c =
 pub returns-clause-size : goal.returns-clause-size
 returns-clause-size c =
     let u = c.section_transmittance-u.ensures in let ends = stored_ends c.section_transmittance-u.result u.size in rw (ends.0, ends.1) u.size
+
+pub returns-clause-error : goal.returns-clause-error
+returns-clause-error c = exact_error_one c.args.detail.now c.args.part.now c.requires.one

@@ -8,6 +8,7 @@ use Rattle.tb_planar.specs.declared.bounds.Bounds.{Bounds}
 use Rattle.tb_planar.specs.Bounds.{IsResistance, plus}
 use Rattle.tb_planar.specs.Printed.{lower_limit, upper_limit}
 use Rattle.tb_planar.proofs.Answering.{accepted, exact_several, refused, stored_ends}
+use Rattle.tb_planar.proofs.Errors.{error_held, exact_error_several, limits_ordered}
 use Rattle.tb_planar.proofs.Parts.{mean_of-encloses}
 use Rattle.tb_planar.specs.Transmittance as exact
 use Rattle.tb_planar.proofs.part.of_several_sections.Goals as goal
@@ -56,6 +57,17 @@ returns-clause-encloses c =
     rw (ends.0, ends.1, m.value, ← exact_several d p c.requires.several)
     (mean_of-encloses c.upper_limit-upper.result c.lower_limit-lower.result (exact.upper_limit d p) (exact.lower_limit d p)
     (above c.upper_limit-upper.result c.lower_limit-lower.result u.size l.size) u.encloses l.encloses)
+
+pub returns-clause-error : goal.returns-clause-error
+returns-clause-error c =
+    let d = c.args.detail.now in
+    let p = c.args.part.now in
+    let u = c.upper_limit-upper.ensures in
+    let l = c.lower_limit-lower.ensures in
+    let stored = to_z-of_z w128 c.relative_error.result (record { sfits = c.relative_error.type_inv }) in
+    rw (stored, c.relative_error.ensures, ← exact_error_several d p c.requires.several)
+    (error_held c.upper_limit-upper.result c.lower_limit-lower.result (exact.upper_limit d p) (exact.lower_limit d p)
+    (above c.upper_limit-upper.result c.lower_limit-lower.result u.size l.size) u.encloses l.encloses (limits_ordered d p c.requires.part))
 
 pub returns-clause-size : goal.returns-clause-size
 returns-clause-size c =
