@@ -57,14 +57,17 @@ fn flux_cost(steps: u32) -> i128
     FLUX_COST + i128::from(steps) / STEPS_OF_A_COST
 }
 
-// What the next round on the flux promises for the cost of one on the field. It isn't worth its time, and promises nothing, where
-// that is less than what each round of a series has to gain.
+// What the next round on the flux promises for the cost of one on the field. One that costs more than a series isn't worth its time,
+// and promises nothing, where that is less than what each round of a series has to gain. Others are made anyway: they bring
+// the state to where no move changes it.
 fn flux_promise(before: i128, after: i128, steps: u32) -> i128
     requires before { unsigned_abs before ≤ 2 ^ 122 }
     requires after { unsigned_abs after ≤ 2 ^ 122 }
 {
-    let promise = gain(before, after) / FLUX_LEFT / flux_cost(steps);
-    if promise < after / LEAST_PART / i128::from(SERIES) {
+    let series = i128::from(SERIES);
+    let cost = flux_cost(steps);
+    let promise = gain(before, after) / FLUX_LEFT / cost;
+    if cost > series && promise < after / LEAST_PART / series {
         0
     } else {
         promise
