@@ -2,10 +2,10 @@
 // three environments. The numbers were worked out by hand and by an independent program.
 ghost use Rattle.std.specs.Prelude.{◌<◌};
 
+use crate::commands::told;
+use crate::reports::BUNDLE;
 use std::alloc::{AllocError, Global};
 use std::test::Fail;
-use tb_outside::{MemorySink, SteadySource};
-use thermal_cli::run;
 
 // A strip of 0.1 mm depth, and its rows 0.1 mm wide each: how many there are stands in the place of Y.
 const STRIP: &str = "bundle,1\ndetail,1,3\nenv,inside\nenv,outside\nmat,foam,0.0001\n\
@@ -16,32 +16,9 @@ case,inside\nx,0,0.1,49999.9,50000\n";
 const STRIP_END: &str =
     "interval,-1299995241999999948000000000000000000,2000000002\nverdict,sweeps,0\nend\n";
 
-// A wall of 1 m by 1 m by 200 mm; the third environment has no surface at it.
-const THREE: &[u8] = b"bundle,1\ndetail,1,3\nenv,room\nenv,stair\nenv,outside\nmat,wall,1\n\
-solid,wall,0.1,200.1,0,1000,0,1000\nair,room,0.13,0,0.1,0,1000,0,1000\n\
-air,outside,0.04,200.1,200.2,0,1000,0,1000\nair,stair,0.13,200.2,200.3,0,1000,0,1000\n\
-case,room\nx,0,0.1,200.1,200.2,200.3\ny,0,1000\nz,0,1000\n\
-t,0,64864865,10810811,0,0\nt,0,64864865,10810811,0,0\nt,0,64864865,10810811,0,0\nt,0,64864865,10810811,0,0\n\
-fz,0,0,0,0\nfx,0,2702702702,2702702702,0,0\nfy,0,0,0,0\nfy,0,0,0,0\nfz,0,0,0,0\n\
-interval,2702702702702700,2702702702702704\nverdict,grid,0\n\
-case,stair\nx,0,0.1,200.1,200.2,200.3\ny,0,1000\nz,0,1000\n\
-t,0,0,0,0,0\nt,0,0,0,0,0\nt,0,0,0,0,0\nt,0,0,0,0,0\n\
-fz,0,0,0,0\nfx,0,0,0,0,0\nfy,0,0,0,0\nfy,0,0,0,0\nfz,0,0,0,0\ninterval,0,0\nverdict,done,0\n\
-case,outside\nx,0,0.1,200.1,200.2,200.3\ny,0,1000\nz,0,1000\n\
-t,0,35135135,89189189,0,0\nt,0,35135135,89189189,0,0\nt,0,35135135,89189189,0,0\nt,0,35135135,89189189,0,0\n\
-fz,0,0,0,0\nfx,0,-2702702702,-2702702702,0,0\nfy,0,0,0,0\nfy,0,0,0,0\nfz,0,0,0,0\n\
-interval,2702702702702700,2702702702702704\nverdict,grid,0\nend\n";
-
-// What `check` tells of these bytes.
+// What `check` tells of these bytes: the exit code, a space and the text.
 fn checked(alloc: Global, bytes: Vec<u8>) -> Result<Vec<u8>, AllocError> {
-    let mut words = Vec::new(alloc);
-    words.push(String::from_str(alloc, "check")?)?;
-    let mut source = SteadySource::new(bytes);
-    let Ok(mut sink) = MemorySink::new(alloc, 1000, Vec::new(alloc)) else {
-        return Err(AllocError);
-    };
-    let _status = run(alloc, words.as_slice(), &mut source, &mut sink);
-    Vec::from_slice(alloc, sink.bytes())
+    told(alloc, "check", bytes, 1000)
 }
 
 // A number of tenths of a millimetre below 10 mm.
@@ -92,20 +69,20 @@ fn a_loss_has_a_limit(rt: HostRuntime) -> Result<(), Fail> {
     let most = checked(alloc, strip(alloc, 26)?)?;
     assert!(rt;
         most.as_slice()
-            == b"accepted,inside,-1299995241999999948000000000000000000,2000000002\nend\n".as_slice()
+            == b"0 accepted,inside,-1299995241999999948000000000000000000,2000000002\nend\n".as_slice()
     );
     let more = checked(alloc, strip(alloc, 27)?)?;
-    assert!(rt; more.as_slice() == b"refused,SumPastLimit,case 1\n".as_slice());
+    assert!(rt; more.as_slice() == b"7 refused,SumPastLimit,case 1\n".as_slice());
     Ok(())
 }
 
 #[test]
 fn three_environments_have_three_cases(rt: HostRuntime) -> Result<(), Fail> {
     let alloc = rt.alloc();
-    let found = checked(alloc, Vec::from_slice(alloc, THREE)?)?;
+    let found = checked(alloc, Vec::from_slice(alloc, BUNDLE.as_bytes())?)?;
     assert!(rt;
         found.as_slice()
-            == b"accepted,room,2702702702702700,2702702702702704\naccepted,stair,0,0\n\
+            == b"0 accepted,room,2702702702702700,2702702702702704\naccepted,stair,0,0\n\
 accepted,outside,2702702702702700,2702702702702704\nend\n"
                 .as_slice()
     );

@@ -1,13 +1,11 @@
 // The detail of the demo beside the same detail as a text, and what a run of `demo` tells.
-ghost use Rattle.std.specs.Prelude.{None};
-
-use crate::commands::told;
+use crate::commands::{told, words_of};
 use crate::solving::{before, behind, has_lines};
 use std::alloc::{AllocError, Global};
 use std::test::Fail;
 use tb_demo::demo_detail;
 use tb_numbers::parse_whole;
-use tb_outside::{Failed, MemorySink, Source};
+use tb_outside::{MemorySink, MemorySource, Source};
 use tb_text::read_detail;
 use thermal_cli::{Status, run};
 
@@ -88,40 +86,17 @@ fn a_sink_without_room_gets_the_front_of_a_demo(rt: HostRuntime) -> Result<(), F
     Ok(())
 }
 
-// A source that fails at each read, and tells no bytes.
-#[derive(Drop)]
-struct BrokenSource {
-    faults: u64,
-}
-
-impl Source for BrokenSource {
-    ghost left = { λ _. None };
-
-    ghost faults = { λ s. s.faults };
-
-    fn read(&mut self, _: &mut [u8]) -> Result<usize, Failed> {
-        self.faults = self.faults.saturating_add(1);
-        Err(Failed)
-    }
-}
-
+// Of a source that fails at its first call, that call is still to come.
 #[test]
 fn a_demo_leaves_its_source_alone(rt: HostRuntime) -> Result<(), Fail> {
-    let words = words_of(rt.alloc(), "demo", "1")?;
-    let mut source = BrokenSource { faults: 0 };
+    let words = words_of(rt.alloc(), "demo 1")?;
+    let mut source = MemorySource::new(Vec::new(rt.alloc()), vec![in rt.alloc(); 1]?);
     let Ok(mut sink) = MemorySink::new(rt.alloc(), 1000, Vec::new(rt.alloc())) else {
         return Err(Fail::from(AllocError));
     };
     let status = run(rt.alloc(), words.as_slice(), &mut source, &mut sink);
     assert!(rt; status == Status::WidthNotReached);
     assert!(rt; sink.bytes().starts_with(b"demo,1,240,"));
-    assert!(rt; source.faults == 0);
+    assert!(rt; source.read(&mut [0]).is_err());
     Ok(())
-}
-
-fn words_of(alloc: Global, command: &str, word: &str) -> Result<Vec<String>, AllocError> {
-    let mut words = Vec::new(alloc);
-    words.push(String::from_str(alloc, command)?)?;
-    words.push(String::from_str(alloc, word)?)?;
-    Ok(words)
 }

@@ -4,7 +4,7 @@ ghost use Rattle.std.specs.Prelude.{None};
 use crate::commands::{input, words_of};
 use std::alloc::{AllocError, Global};
 use std::test::Fail;
-use tb_outside::{Failed, MemorySink, Sink, Source};
+use tb_outside::{Failed, MemorySink, MemorySource, Sink, Source};
 use thermal_cli::run;
 
 // Words, and what stands in the place of some lines of their input as in the cases of commands: each command, and refusals.
@@ -21,30 +21,20 @@ uvalue|4:mat,wall,0\n\
 check check\n\
 solve --grade 13";
 
-// Gives these bytes by seven a call, and fails at the call of one number.
+// Gives at most seven bytes a call.
 #[derive(Drop)]
-struct FlakySource<'a> {
-    bytes: &'a [u8],
-    calls: u64,
-    fails: u64,
-    faults: u64,
+struct NarrowSource {
+    inner: MemorySource,
 }
 
-impl Source for FlakySource<'_> {
+impl Source for NarrowSource {
     ghost left = { λ _. None };
 
-    ghost faults = { λ s. s.faults };
+    ghost faults = { λ s. s.inner.faults };
 
     fn read(&mut self, buf: &mut [u8]) -> Result<usize, Failed> {
-        self.calls = self.calls.saturating_add(1);
-        if self.calls == self.fails {
-            self.faults = self.faults.saturating_add(1);
-            return Err(Failed);
-        }
-        let count = buf.len().min(self.bytes.len()).min(7);
-        buf[..count].copy_from_slice(&self.bytes[..count]);
-        self.bytes = &self.bytes[count..];
-        Ok(count)
+        let most = buf.len().min(7);
+        self.inner.read(&mut buf[..most])
     }
 }
 
@@ -73,15 +63,9 @@ fn told_where(
     write: u64,
 ) -> Result<Vec<u8>, AllocError> {
     let words = words_of(alloc, words)?;
-    let mut source = FlakySource {
-        bytes,
-        calls: 0,
-        fails: read,
-        faults: 0,
-    };
-    let mut fails = Vec::new(alloc);
-    fails.push(write)?;
-    let Ok(inner) = MemorySink::new(alloc, 10_000, fails) else {
+    let inner = MemorySource::new(Vec::from_slice(alloc, bytes)?, vec![in alloc; read]?);
+    let mut source = NarrowSource { inner };
+    let Ok(inner) = MemorySink::new(alloc, 10_000, vec![in alloc; write]?) else {
         return Err(AllocError);
     };
     let mut sink = NarrowSink { inner };

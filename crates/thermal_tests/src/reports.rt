@@ -9,7 +9,7 @@ use tb_planar::first_ratio_above;
 use tb_report::write_report;
 
 // A wall of 1 m by 1 m by 200 mm between a room and the outside, and a stair behind the air of the outside.
-const BUNDLE: &str = "\
+pub(crate) const BUNDLE: &str = "\
 bundle,1\n\
 detail,1,3\n\
 env,room\n\

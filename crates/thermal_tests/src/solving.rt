@@ -100,6 +100,28 @@ fn cells_along(found: &[u8], axis: &[u8]) -> usize {
     lines.iter().filter(|byte| **byte == b',').count()
 }
 
+fn has_cells(found: &[u8], x: usize, y: usize, z: usize) -> bool {
+    cells_along(found, b"\nx,") == x
+        && cells_along(found, b"\ny,") == y
+        && cells_along(found, b"\nz,") == z
+}
+
+// Whether the first interval of a bundle has no more than this width.
+fn is_no_wider(found: &[u8], most: i128) -> bool {
+    match ends(found) {
+        Some((lo, hi)) => lo <= hi && hi.saturating_sub(lo) <= most,
+        None => false,
+    }
+}
+
+// Whether the first intervals of two bundles have a number in common.
+fn do_meet(found: &[u8], other: &[u8]) -> bool {
+    match (ends(found), ends(other)) {
+        (Some((lo, hi)), Some((other_lo, other_hi))) => lo <= other_hi && other_lo <= hi,
+        _ => false,
+    }
+}
+
 #[test]
 fn a_wall_that_misses_its_width_is_settled(rt: HostRuntime) -> Result<(), Fail> {
     let alloc = rt.alloc();
@@ -139,17 +161,13 @@ fn a_corner_on_two_grids(rt: HostRuntime) -> Result<(), Fail> {
     let found = solved(alloc, "solve --width 100000", CORNER)?;
     assert!(rt; found.starts_with(b"0 bundle,1\n"));
     assert!(rt; is_accepted(alloc, found.as_slice())?);
-    let coarse = solved(alloc, "solve --halve 0", CORNER)?;
-    let (lo, hi) = ends(found.as_slice()).ok_or("no interval")?;
-    let (coarse_lo, coarse_hi) = ends(coarse.as_slice()).ok_or("no interval")?;
-    assert!(rt; lo <= hi && hi.saturating_sub(lo) <= 100_000_000_000_000);
-    assert!(rt; lo <= coarse_hi && coarse_lo <= hi);
-    assert!(rt; cells_along(found.as_slice(), b"\nx,") == 49);
-    assert!(rt; cells_along(found.as_slice(), b"\ny,") == 49);
-    assert!(rt; cells_along(found.as_slice(), b"\nz,") == 1);
+    assert!(rt; is_no_wider(found.as_slice(), 100_000_000_000_000));
+    assert!(rt; has_cells(found.as_slice(), 49, 49, 1));
     let report = read_by(alloc, "report", found.as_slice())?;
     assert!(rt; report.starts_with(b"0 report,1\ncase,inside,0."));
     assert!(rt; has_lines(report.as_slice(), "U,wall,0.332963,0.332964"));
+    let coarse = solved(alloc, "solve --halve 0", CORNER)?;
+    assert!(rt; do_meet(found.as_slice(), coarse.as_slice()));
     Ok(())
 }
 

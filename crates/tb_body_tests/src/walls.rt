@@ -1,18 +1,11 @@
 // Faults of fluxes on a wall, worked out by hand.
-ghost use Rattle.std.specs.Prelude.{◌≤◌, length};
-
-use crate::grids::{axis, body_of};
+use crate::bodies::{WALL, body};
+use crate::grids::axis;
 use std::alloc::Global;
 use std::test::Fail;
 use tb_flux::Flux;
 use tb_geometry::Body;
 use tb_grid::{CellId, FaceId, Grid};
-use tb_text::read_detail;
-
-// 1 m² of 200 mm.
-pub(crate) const WALL: &[u8] =
-    b"detail,1,3\nenv,inside\nenv,outside\nmat,wall,1\nsolid,wall,0.1,200.1,0,1000,0,1000\n\
-air,inside,0.13,0,0.1,0,1000,0,1000\nair,outside,0.04,200.1,200.2,0,1000,0,1000\n";
 
 // Fluxes through the wall: straight, one with heat through two adiabatic faces, and one that loses 1 nW in the first of
 // two halves and gains it in the second.
@@ -27,15 +20,6 @@ const LEAKING: [i64; 16] = [
 const UNBALANCED: [i64; 21] = [
     0, 0, 0, 0, 0, 2702702702, 2702702703, 2702702702, 0, 0, 0, 0, 0, 0, 0, 0, 0, 0, 0, 0, 0,
 ];
-
-pub(crate) fn body(alloc: Global, text: &[u8]) -> Result<Body, Fail>
-    requires { length text.now ≤ 1000 }
-{
-    match read_detail(alloc, text) {
-        Ok(detail) => body_of(alloc, &detail),
-        Err(_) => Err(Fail::from("no detail")),
-    }
-}
 
 // The wall's grid with a line in its middle.
 pub(crate) fn halved(alloc: Global) -> Result<Grid, Fail> {

@@ -5,9 +5,9 @@ ghost use Rattle.tb_grid.specs.Grid.{counts_of};
 ghost use Rattle.tb_geometry.specs.Grids.{CarriesBody};
 ghost use Rattle.tb_flux.specs.Fluxes.{AreFlows, FitsFaces};
 
-use crate::walls::{WALL, body};
 use std::alloc::Global;
 use std::test::Fail;
+use tb_body_tests::{WALL, body};
 use tb_flux::Flux;
 use tb_geometry::{Body, Case};
 use tb_grid::{FaceId, Grading, Grid, NodeId};
@@ -101,10 +101,9 @@ fn plain_of(
 #[test]
 fn plain_states(rt: HostRuntime) -> Result<(), Fail> {
     let alloc = rt.alloc();
-    let wall = body(alloc, WALL)?;
-    assert!(rt; plain(alloc, &wall, wall.base(), 0)? == Some((0, 7_692_307_692_307_693, false)));
+    assert!(rt; plain_of(alloc, WALL, 0, 0, 0)? == Some((0, 7_692_307_692_307_693, false)));
     assert!(rt;
-        plain(alloc, &wall, wall.base(), 29)?
+        plain_of(alloc, WALL, 0, 0, 29)?
             == Some((2_702_702_702_339_050, 2_702_702_702_702_706, true))
     );
     assert!(rt;
@@ -123,7 +122,17 @@ fn plain_states(rt: HostRuntime) -> Result<(), Fail> {
 
 // What a move leads to on the wall from zero: whether there is one, whether it changed the state, and the values at nodes
 // 1 and 2 and the flows through faces 4 and 5.
-fn moved(alloc: Global, wall: &Body, wanted: Move) -> Result<Option<(bool, bool, [i64; 4])>, Fail> {
+fn moved(alloc: Global, wanted: Move) -> Result<Option<(bool, bool, [i64; 4])>, Fail> {
+    let wall = body(alloc, WALL)?;
+    moved_on(alloc, &wall, wanted)
+}
+
+// The same on its body.
+fn moved_on(
+    alloc: Global,
+    wall: &Body,
+    wanted: Move,
+) -> Result<Option<(bool, bool, [i64; 4])>, Fail> {
     let grid = wall.base();
     if !wall.carries(grid) {
         return Ok(None);
@@ -146,16 +155,13 @@ fn moved(alloc: Global, wall: &Body, wanted: Move) -> Result<Option<(bool, bool,
 #[test]
 fn single_moves_on_a_wall(rt: HostRuntime) -> Result<(), Fail> {
     let alloc = rt.alloc();
-    let wall = body(alloc, WALL)?;
+    assert!(rt; moved(alloc, Move::Node(NodeId(1)))? == Some((true, true, [100_000_000, 0, 0, 0])));
+    assert!(rt; moved(alloc, Move::Node(NodeId(16)))? == Some((false, false, [0, 0, 0, 0])));
     assert!(rt;
-        moved(alloc, &wall, Move::Node(NodeId(1)))? == Some((true, true, [100_000_000, 0, 0, 0]))
-    );
-    assert!(rt; moved(alloc, &wall, Move::Node(NodeId(16)))? == Some((false, false, [0, 0, 0, 0])));
-    assert!(rt;
-        moved(alloc, &wall, Move::Cycle(FaceId(5)))?
+        moved(alloc, Move::Cycle(FaceId(5)))?
             == Some((true, true, [0, 0, 2_702_734_053, 2_702_734_053]))
     );
-    assert!(rt; moved(alloc, &wall, Move::Cycle(FaceId(4)))? == Some((false, false, [0, 0, 0, 0])));
+    assert!(rt; moved(alloc, Move::Cycle(FaceId(4)))? == Some((false, false, [0, 0, 0, 0])));
     Ok(())
 }
 

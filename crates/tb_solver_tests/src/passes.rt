@@ -1,8 +1,8 @@
 // Plain passes on a wall of one solid cell from zero, on the table of its weights. The upper end after each pass, and after
 // how many nothing moves, were computed by a separate program.
-use crate::walls::{WALL, body};
 use std::alloc::Global;
 use std::test::Fail;
+use tb_body_tests::{WALL, body};
 use tb_field::Field;
 use tb_geometry::{Body, Case};
 use tb_relax::Table;

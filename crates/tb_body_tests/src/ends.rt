@@ -2,8 +2,9 @@
 // cell and face by face, from the formulas of the terms.
 ghost use Rattle.std.specs.Prelude.{◌≤◌, length};
 
+use crate::bodies::{CORNER, WALL, body};
 use crate::grids::axis;
-use crate::walls::{STRAIGHT, WALL, body, halved};
+use crate::walls::{STRAIGHT, halved};
 use std::alloc::Global;
 use std::test::Fail;
 use tb_duality::gap;
@@ -17,11 +18,6 @@ use tb_sums::{PastLimit, lower_end, upper_end};
 const TURNED: &[u8] =
     b"detail,1,3\nenv,inside\nenv,outside\nmat,wall,1\nsolid,wall,0.1,200.1,0,1000,0,1000\n\
 air,inside,0.04,0,0.1,0,1000,0,1000\nair,outside,0.13,200.1,200.2,0,1000,0,1000\n";
-
-// Two arms of two materials round an inner corner, with two outer surfaces that differ.
-pub(crate) const CORNER: &[u8] =
-    b"detail,1,2\nenv,inside\nenv,outside\nmat,stone,2\nmat,wool,0.04\nsolid,stone,1,11,1,4\n\
-solid,wool,1,5,4,14\nair,inside,0.13,5,11,4,14\nair,outside,0.04,0,1,0,14\nair,outside,0.07,1,11,0,1\n";
 
 // The field that falls in straight lines, on the wall and on the wall with a line in its middle.
 const FALLING: [i64; 16] = [

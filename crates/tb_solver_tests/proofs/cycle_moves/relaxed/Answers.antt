@@ -2,7 +2,7 @@ use Rattle.std.proofs.Common.{ap, sym, ◌∙◌}
 use Rattle.tb_grid.specs.Grid.{counts_of}
 use Rattle.tb_trees.specs.Bodies.{BodyOnGrid}
 use Rattle.tb_trees.proofs.Filled.{mesh_counts}
-use Rattle.thermal_tests.proofs.cycle_moves.relaxed.Goals as goal
+use Rattle.tb_solver_tests.proofs.cycle_moves.relaxed.Goals as goal
 
 pub turned-requires : goal.turned-requires
 turned-requires c =

@@ -4,10 +4,9 @@ ghost use Rattle.std.specs.Prelude.{◌≡◌};
 ghost use Rattle.tb_grid.specs.Grid.{counts_of};
 ghost use Rattle.tb_relax.specs.Tables.{table_counts};
 
-use crate::ends::CORNER;
-use crate::walls::{WALL, body};
 use std::alloc::Global;
 use std::test::Fail;
+use tb_body_tests::{CORNER, WALL, body};
 use tb_cycle_moves::{relax_cycles, some_cycle_moves};
 use tb_geometry::{Body, Case};
 use tb_relax::Table;

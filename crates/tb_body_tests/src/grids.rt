@@ -6,6 +6,7 @@ ghost use Rattle.tb_detail.specs.Limits.{InLimits};
 ghost use Rattle.tb_grid.specs.Grid.{counts_of};
 ghost use Rattle.tb_geometry.specs.Grids.{CarriesBody};
 
+use crate::bodies::body_of;
 use std::alloc::Global;
 use std::test::Fail;
 use tb_detail::{Content, Detail, Material, SpaceBox};
@@ -178,15 +179,6 @@ fn wall(alloc: Global) -> Result<Detail, Fail>
     match read_detail(alloc, WALL) {
         Ok(detail) => Ok(detail),
         Err(_) => Err(Fail::from("no detail")),
-    }
-}
-
-pub(crate) fn body_of(alloc: Global, detail: &Detail) -> Result<Body, Fail>
-    requires { InLimits detail.now }
-{
-    match Body::new(alloc, detail) {
-        Ok(body) => Ok(body),
-        Err(_) => Err(Fail::from("no body")),
     }
 }
 
