@@ -26,11 +26,11 @@ enum Stage {
     Ended,
 }
 
-// The share of the dropped fill that the diagonal of the cells' incomplete factor takes, in thousandths, and that of the
+// The share of the dropped fill that the diagonal of the cells' incomplete factor takes, in 1,024ths, and that of the
 // nodes' factor.
-const CELL_SHARE: u16 = 998;
+const CELL_SHARE: u16 = 1_022;
 
-const NODE_SHARE: u16 = 992;
+const NODE_SHARE: u16 = 1_016;
 
 // The most steps of a solution of the cells' system.
 const MOST_STEPS: u32 = 3_000;
@@ -124,17 +124,37 @@ impl Candidates {
         }))
     }
 
-    // Solves the cells' system from its last solution.
-    fn go_on(&mut self) -> Option<Outcome> {
+    // Takes off the residual what the last solution of the cells' system gives of it.
+    fn resume(&mut self) -> Option<()> {
         self.solver.clear_solution(SOLUTION_EXPONENT);
         for at in 0..self.temperatures.len() {
             self.solver.set_solution(at, self.temperatures[at])?;
         }
-        self.solver.resume(&self.matrix)?;
-        Some(
-            self.solver
-                .go_on(&self.matrix, &self.matrix, MOST_STEPS, FURTHER_ACCURACY),
-        )
+        self.solver.resume(&self.matrix)
+    }
+
+    // Adds the last solution to what it lacked.
+    fn add_last(&mut self) -> Option<()> {
+        for at in 0..self.temperatures.len() {
+            self.solver.add_solution(at, self.temperatures[at])?;
+        }
+        Some(())
+    }
+
+    // Solves the cells' system, once it is coupled, from the last solution if there is one.
+    fn solve_coupled(&mut self) -> Option<Outcome> {
+        self.matrix.sum_up()?;
+        if !self.is_solved {
+            self.matrix.factorize(CELL_SHARE);
+            return Some(self.solver.solve(&self.matrix, MOST_STEPS, ACCURACY));
+        }
+        self.resume()?;
+        self.matrix.factorize(CELL_SHARE);
+        let outcome = self
+            .solver
+            .solve(&self.matrix, MOST_STEPS, FURTHER_ACCURACY);
+        self.add_last()?;
+        Some(outcome)
     }
 
     // Makes the cells' system beside a present flux and solves it, from the last solution if there is one.
@@ -148,13 +168,7 @@ impl Candidates {
             &mut self.matrix,
             &mut self.solver,
         )?;
-        self.matrix.finish(CELL_SHARE)?;
-        let outcome = if self.is_solved {
-            self.go_on()?
-        } else {
-            self.solver
-                .solve(&self.matrix, &self.matrix, MOST_STEPS, ACCURACY)
-        };
+        let outcome = self.solve_coupled()?;
         keep(self.solver.solution(), self.temperatures.as_mut_slice());
         self.is_solved = true;
         self.steps = outcome.steps;

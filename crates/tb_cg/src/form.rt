@@ -150,13 +150,14 @@ impl Form {
 
     /// Makes `q` the derivative of the energy at the field `p`, over `2^shift`, where the warm environments have a level
     /// and the others 0. Gives a number with as many bits as the greatest entry. None where an entry doesn't fit, or the
-    /// lists have other lengths than the layout asks for.
+    /// lists have other lengths than the layout asks for, or the shift is above 61.
     pub fn derivative(&self, p: &[Entry], level: Entry, shift: u8, q: &mut [Entry]) -> Option<i64> {
-        if p.len() != self.points.layout.places() || q.len() != p.len() {
+        if p.len() != self.points.layout.places() || q.len() != p.len() || shift > 61 {
             return None;
         }
         q.fill(Entry::ZERO);
-        add_cells(self.cells.as_slice(), self.reach, p, shift, q)?;
+        // The weights of the modes are four times those of the cell.
+        add_cells(self.cells.as_slice(), self.reach, p, shift + 2, q)?;
         add_faces(self.faces.as_slice(), level, p, shift, q)?;
         Some(magnitude(q))
     }
@@ -168,7 +169,7 @@ impl Operator for Form {
     }
 }
 
-// Adds what the cells give.
+// Adds what the cells give, over `2^(shift - 2)`.
 fn add_cells(
     cells: &[CellForm],
     reach: Reach,

@@ -1,6 +1,7 @@
 // What a cell and a surface add to the product of the exact trilinear form with a vector.
-ghost use Rattle.std.specs.Prelude.{◌≡◌, ◌^◌, ◌<◌, ◌≤◌, ◌+◌, length, unsigned_abs};
+ghost use Rattle.std.specs.Prelude.{◌≡◌, ◌^◌, ◌<◌, ◌≤◌, ◌+◌, length, unsigned_abs, IfSome};
 
+use crate::modes::{CellForces, CellModes, EdgeForces, LayerForces, LayerModes};
 use tb_gradients::{Coupling, Entry};
 
 /// How far it is from a node to the next along each axis.
@@ -81,11 +82,6 @@ impl Product {
     }
 
     #[inline(always)]
-    fn negative(self) -> Product {
-        Product { value: -self.value }
-    }
-
-    #[inline(always)]
     fn value(self) -> i128
         ensures { unsigned_abs result ≤ 2 ^ 115 }
     {
@@ -93,15 +89,7 @@ impl Product {
     }
 }
 
-// The sum of the products along the three axes.
-#[inline(always)]
-fn sum(x: Product, y: Product, z: Product) -> i128
-    ensures { unsigned_abs result ≤ 2 ^ 118 }
-{
-    x.value() + y.value() + z.value()
-}
-
-/// Four products, one for each edge of a cell along an axis or each corner of a face.
+/// Four products, one for each corner of a face.
 #[derive(Clone, Copy)]
 struct Four {
     a: Product,
@@ -145,70 +133,120 @@ fn add(q: &mut [Entry], at: usize, sum: i128, shift: u8) -> Option<()>
     Some(())
 }
 
-// The products along x, y and z.
-#[derive(Clone, Copy)]
-struct Parts {
-    x: Four,
-    y: Four,
-    z: Four,
-}
+// A force has at most 58 bits.
+const MOST_FORCE: i128 = 1 << 58;
 
-// The products of a cell's weights with the derivatives of its energy along the axes.
+// A mode times its weight, over `2^shift`. None where it doesn't fit.
 #[inline(always)]
-fn products(cell: CellForm, reach: Reach, p: &[Entry]) -> Parts
-    requires { cell.place + reach.x + reach.y + reach.z < length p.now }
+fn force(weight: i64, mode: i64, shift: u8) -> Option<i64>
+    requires weight { unsigned_abs weight ≤ 2 ^ 61 }
+    requires mode { unsigned_abs mode ≤ 2 ^ 56 }
+    ensures { IfSome result (λ f. unsigned_abs f ≤ 2 ^ 58) }
 {
-    let Reach { x, y, z } = reach;
-    let at = cell.place as usize;
-    let (t000, t100, t010, t110) = (p[at], p[at + x], p[at + y], p[at + x + y]);
-    let (t001, t101, t011, t111) = (p[at + z], p[at + x + z], p[at + y + z], p[at + x + y + z]);
-    Parts {
-        x: spread(
-            cell.x,
-            difference(t100, t000),
-            difference(t110, t010),
-            difference(t101, t001),
-            difference(t111, t011),
-        ),
-        y: spread(
-            cell.y,
-            difference(t010, t000),
-            difference(t110, t100),
-            difference(t011, t001),
-            difference(t111, t101),
-        ),
-        z: spread(
-            cell.z,
-            difference(t001, t000),
-            difference(t101, t100),
-            difference(t011, t010),
-            difference(t111, t110),
-        ),
+    let product = (i128::from(weight) * i128::from(mode)) >> (shift & 63);
+    if product < -MOST_FORCE || product > MOST_FORCE {
+        return None;
     }
+    Some(product as i64)
 }
 
-/// Adds what a cell gives to the product, over `2^shift`. None where an entry doesn't fit.
+// The weight of a mode that is a difference along one axis.
+#[inline(always)]
+fn along_one(weight: Coupling) -> i64
+    ensures { unsigned_abs result ≤ 2 ^ 61 }
+{
+    9 * weight.value()
+}
+
+// The weight of a mode that is a difference along two axes.
+#[inline(always)]
+fn along_two(first: Coupling, second: Coupling) -> i64
+    ensures { unsigned_abs result ≤ 2 ^ 61 }
+{
+    3 * (first.value() + second.value())
+}
+
+// The weight of the mode that is a difference along all three axes.
+#[inline(always)]
+fn along_three(cell: CellForm) -> i64
+    ensures { unsigned_abs result ≤ 2 ^ 61 }
+{
+    cell.x.value() + cell.y.value() + cell.z.value()
+}
+
+// The modes of a cell times four times their weights, over `2^shift`. Along an axis of the derivative a mode that is a difference
+// counts once, along another one half, and one that is a sum thrice that. None where one doesn't fit.
+#[inline(always)]
+fn forces(cell: CellForm, modes: CellModes, shift: u8) -> Option<CellForces> {
+    let x = force(along_one(cell.x), modes.x, shift)?;
+    let y = force(along_one(cell.y), modes.y, shift)?;
+    let z = force(along_one(cell.z), modes.z, shift)?;
+    let xy = force(along_two(cell.x, cell.y), modes.xy, shift)?;
+    let xz = force(along_two(cell.x, cell.z), modes.xz, shift)?;
+    let yz = force(along_two(cell.y, cell.z), modes.yz, shift)?;
+    let xyz = force(along_three(cell), modes.xyz, shift)?;
+    Some(CellForces {
+        x,
+        y,
+        z,
+        xy,
+        xz,
+        yz,
+        xyz,
+    })
+}
+
+// Adds a word to an entry. None where the sum doesn't fit.
+#[inline(always)]
+fn add_word(q: &mut [Entry], at: usize, word: i64) -> Option<()>
+    requires at { at < length q.old }
+    requires word { unsigned_abs word ≤ 2 ^ 61 }
+{
+    q[at] = Entry::in_word(q[at].value() + word)?;
+    Some(())
+}
+
+// Adds the forces of two nodes, which are so many places apart.
+#[inline(always)]
+fn add_edge(q: &mut [Entry], at: usize, x: usize, forces: EdgeForces) -> Option<()>
+    requires { at + x < length q.old }
+    ensures { length q.new ≡ length q.old }
+{
+    add_word(q, at, forces.low())?;
+    add_word(q, at + x, forces.high())
+}
+
+// Adds the forces of a layer of four nodes.
+#[inline(always)]
+fn add_layer(q: &mut [Entry], at: usize, x: usize, y: usize, forces: LayerForces) -> Option<()>
+    requires { at + x + y < length q.old }
+    ensures { length q.new ≡ length q.old }
+{
+    add_edge(q, at, x, forces.low())?;
+    add_edge(q, at + y, x, forces.high())
+}
+
+// The modes of a layer of four nodes.
+#[inline(always)]
+fn layer_modes(p: &[Entry], at: usize, x: usize, y: usize) -> LayerModes
+    requires { at + x + y < length p.now }
+{
+    LayerModes::new(p[at], p[at + x], p[at + y], p[at + x + y])
+}
+
+/// Adds what a cell gives to the product, over `2^(shift - 2)`. None where an entry doesn't fit.
 #[inline(always)]
 pub fn add_cell(cell: CellForm, reach: Reach, p: &[Entry], shift: u8, q: &mut [Entry]) -> Option<()>
     requires p { cell.place + reach.x + reach.y + reach.z < length p.now }
     requires q { length q.old ≡ length p.now }
+    ensures { length q.new ≡ length q.old }
 {
     let Reach { x, y, z } = reach;
     let at = cell.place as usize;
-    let Parts { x: u, y: v, z: w } = products(cell, reach, p);
-    add(
-        q,
-        at,
-        sum(u.a.negative(), v.a.negative(), w.a.negative()),
-        shift,
-    )?;
-    add(q, at + x, sum(u.a, v.b.negative(), w.b.negative()), shift)?;
-    add(q, at + y, sum(u.b.negative(), v.a, w.c.negative()), shift)?;
-    add(q, at + x + y, sum(u.b, v.b, w.d.negative()), shift)?;
-    add(q, at + z, sum(u.c.negative(), v.c.negative(), w.a), shift)?;
-    add(q, at + x + z, sum(u.c, v.d.negative(), w.b), shift)?;
-    add(q, at + y + z, sum(u.d.negative(), v.c, w.c), shift)?;
-    add(q, at + x + y + z, sum(u.d, v.d, w.d), shift)
+    let modes = CellModes::new(layer_modes(p, at, x, y), layer_modes(p, at + z, x, y));
+    let forces = forces(cell, modes, shift)?;
+    add_layer(q, at, x, y, forces.low())?;
+    add_layer(q, at + z, x, y, forces.high())
 }
 
 /// The weight of a surface, the place of its lowest node, and how far the next nodes are along its two axes.

@@ -15,6 +15,7 @@ mod field;
 mod flows;
 mod form;
 mod kernel;
+mod modes;
 mod nodes;
 mod points;
 mod potential;

@@ -74,8 +74,8 @@ fn solve_flows(
 ) -> Option<End> {
     let scale = scale_of_links(cells);
     couple_cells(cells, points, scale, &[], matrix, solver)?;
-    matrix.finish(998)?;
-    let outcome = solver.solve(matrix, matrix, 100, 30);
+    matrix.finish(1_022)?;
+    let outcome = solver.solve(matrix, 100, 30);
     face_flows(cells, points, solver.solution(), scale, &[], flows);
     Some(outcome.end)
 }
@@ -140,7 +140,7 @@ fn descend(
         descent: &[],
     };
     form.couple_nodes(free, matrix)?;
-    matrix.finish(980)?;
+    matrix.finish(1_004)?;
     for _ in 0..30 {
         let _bits = solver.step(form, matrix, i32::MIN)?;
     }
@@ -195,5 +195,88 @@ fn a_field_starts_at_the_means_of_the_cells(rt: HostRuntime) -> Result<(), Fail>
     let grid = wall(rt.alloc())?;
     let field = start_of(rt.alloc(), cells_of(&grid))?;
     assert!(rt; is_linear(field.as_slice()));
+    Ok(())
+}
+
+// One cell of 100 by 200 by 400 mm, whose weights along x, y and z are as 16 to 4 to 1.
+fn block(alloc: Global) -> Result<Grid, Fail> {
+    let x = axis(alloc, [0, 1_000].as_slice())?;
+    let y = axis(alloc, [0, 2_000].as_slice())?;
+    let z = axis(alloc, [0, 4_000].as_slice())?;
+    Ok(Grid::new(x, y, z)?)
+}
+
+fn cells_of_block(grid: &Grid) -> Cells<'static> {
+    Cells {
+        counts: grid.counts(),
+        x: CellAxis {
+            widths: &[1_000],
+            bases: &[0],
+        },
+        y: CellAxis {
+            widths: &[2_000],
+            bases: &[0],
+        },
+        z: CellAxis {
+            widths: &[4_000],
+            bases: &[0],
+        },
+        base: grid.counts(),
+        fillings: &[Filling::Solid { lambda: 10_000 }],
+    }
+}
+
+// The corners, along x first.
+const CORNERS: [Place; 8] = [
+    Place { i: 0, j: 0, k: 0 },
+    Place { i: 1, j: 0, k: 0 },
+    Place { i: 0, j: 1, k: 0 },
+    Place { i: 1, j: 1, k: 0 },
+    Place { i: 0, j: 0, k: 1 },
+    Place { i: 1, j: 0, k: 1 },
+    Place { i: 0, j: 1, k: 1 },
+    Place { i: 1, j: 1, k: 1 },
+];
+
+// By hand, where the last corner alone is warm: along each axis an edge counts 4, those beside it 2, the one across 1.
+const FORCES: [i64; 8] = [-21, 6, -30, 36, -39, 18, -54, 84];
+
+// The derivative of the block's energy where its last corner alone is warm.
+fn derivative_of(alloc: Global, cells: Cells) -> Result<Vec<i64>, AllocError> {
+    let mut forces = Vec::new(alloc);
+    if let Some(points) = Points::new(cells.counts) {
+        let form = Form::new(alloc, cells, points)?;
+        let mut p = vec![in alloc; Entry::ZERO; points.layout.places()]?;
+        let mut q = vec![in alloc; Entry::ZERO; points.layout.places()]?;
+        let last = points.at(Place { i: 1, j: 1, k: 1 });
+        if last < p.len() {
+            p[last] = Entry::new(1i128 << 50).unwrap_or(Entry::ZERO);
+        }
+        let made = form.derivative(p.as_slice(), Entry::ZERO, 58, q.as_mut_slice());
+        if made.is_some() {
+            for corner in CORNERS {
+                let found = q.as_slice().get(points.at(corner)).copied();
+                forces.push(found.unwrap_or(Entry::ZERO).value())?;
+            }
+        }
+    }
+    Ok(forces)
+}
+
+#[test]
+fn each_corner_of_a_cell_has_its_force(rt: HostRuntime) -> Result<(), Fail> {
+    let grid = block(rt.alloc())?;
+    let forces = derivative_of(rt.alloc(), cells_of_block(&grid))?;
+    let forces = forces.as_slice();
+    let last = forces.get(7).copied().unwrap_or(0);
+    assert!(rt; last > 1 << 40, "{last}");
+    for i in 0..8usize {
+        let found = forces.get(i).copied().unwrap_or(0);
+        let wanted = i128::from(last) * i128::from(FORCES[i]) / 84;
+        assert!(rt;
+            (i128::from(found) - wanted).unsigned_abs() < 1 << 10,
+            "{i}: {found} for {wanted}"
+        );
+    }
     Ok(())
 }

@@ -38,7 +38,7 @@ impl Entry {
 
     /// The value of one word, if it has at most 53 bits.
     #[inline(always)]
-    pub(crate) fn in_word(value: i64) -> Option<Entry>
+    pub fn in_word(value: i64) -> Option<Entry>
         ensures { IsSome result ↔ (unsigned_abs value ≤ 2 ^ 53) }
     {
         if value < -MOST_ENTRY || value > MOST_ENTRY {
@@ -79,6 +79,13 @@ impl Coupling {
             return None;
         }
         Some(Coupling { value })
+    }
+
+    /// The coupling, or the nearest that is neither negative nor above 2⁵⁷.
+    pub(crate) fn at_most(value: i64) -> Coupling {
+        Coupling {
+            value: value.clamp(0, MOST_COUPLING),
+        }
     }
 
     /// The value.

@@ -4,22 +4,21 @@ ghost use Rattle.tb_gradients.specs.Layouts.{places_of};
 
 use crate::entry::Coupling;
 use crate::layout::Layout;
-use crate::pivot::{LEAST_PIVOT, Pivot};
+use crate::root::{LEAST_PIVOT, Root};
 
 // What the elimination of a point takes off the diagonal of a neighbour, of the couplings `after` that it has with later
-// points: what fill would be dropped there goes with it, in so many thousandths.
-fn taken_by(coupling: Coupling, after: i64, pivot: i64, share: u16) -> i64 {
-    let coupling = i128::from(coupling.value());
-    let dropped = (i128::from(after) - coupling) * i128::from(share) / 1000;
-    let taken = coupling.saturating_mul(coupling.saturating_add(dropped));
-    match taken.checked_div(i128::from(pivot)) {
-        Some(taken) => i64::try_from(taken).unwrap_or(i64::MAX),
-        None => i64::MAX,
-    }
+// points: what fill would be dropped there goes with it, in so many 1,024ths.
+fn taken_by(coupling: Coupling, after: i64, root: Root, share: u16) -> i64 {
+    let coupling = coupling.value();
+    let dropped = (i128::from(after) - i128::from(coupling)) * i128::from(share) >> 10;
+    let dropped = i64::try_from(dropped).unwrap_or(i64::MAX);
+    let first = root.beside(coupling);
+    let second = root.beside(coupling.saturating_add(dropped));
+    i64::try_from((i128::from(first) * i128::from(second)) >> 36).unwrap_or(i64::MAX)
 }
 
 /// The couplings of a matrix, the sums of each point's, and the share of the dropped fill that the diagonal takes, in
-/// thousandths.
+/// 1,024ths.
 #[derive(Clone, Copy)]
 pub struct Couplings<'a> {
     pub layout: Layout,
@@ -41,9 +40,17 @@ fn take(taken: &mut [i64], slot: usize, amount: i64)
     taken[slot] = taken[slot].saturating_add(amount);
 }
 
-// Eliminates a point, and gives its pivot. What is taken from the diagonals of the points up to the next layer stands in
-// `taken`, each at its place's remainder.
-fn eliminate(couplings: Couplings, at: usize, taken: &mut [i64]) -> Pivot
+// A place of a ring, from one less than once round it farther.
+fn round(ring: usize, slot: usize) -> usize
+    requires { slot < ring + ring }
+    ensures { result < ring }
+{
+    if slot >= ring { slot - ring } else { slot }
+}
+
+// Eliminates a point, and gives the root of its pivot, which is at least a 65,536th of its couplings. What is taken from
+// the diagonals of the points up to the next layer stands in `taken`, each at its place's remainder.
+fn eliminate(couplings: Couplings, at: usize, taken: &mut [i64]) -> Root
     requires after { couplings.layout.layer ≤ at }
     requires before { at < couplings.layout.layer + couplings.layout.points }
     requires taken { length taken.old ≡ couplings.layout.layer + 1 }
@@ -59,40 +66,54 @@ fn eliminate(couplings: Couplings, at: usize, taken: &mut [i64]) -> Pivot
     let row = layout.row();
     let layer = layout.layer();
     let ring = layer + 1;
-    let pivot = sums[at]
-        .value()
-        .saturating_sub(taken[at % ring])
+    let slot = at % ring;
+    let sum = sums[at].value();
+    let pivot = sum
+        .saturating_sub(taken[slot])
+        .max(sum >> 16)
         .max(LEAST_PIVOT);
-    taken[at % ring] = 0;
-    if sums[at].value() == 0 {
-        return Pivot::ZERO;
+    taken[slot] = 0;
+    if sum == 0 {
+        return Root::ZERO;
     }
+    let root = Root::new(pivot);
     let after = x[at + 1].value() + y[at + row].value() + z[at + layer].value();
     take(
         taken,
-        (at + 1) % ring,
-        taken_by(x[at + 1], after, pivot, share),
+        round(ring, slot + 1),
+        taken_by(x[at + 1], after, root, share),
     );
     take(
         taken,
-        (at + row) % ring,
-        taken_by(y[at + row], after, pivot, share),
+        round(ring, slot + row),
+        taken_by(y[at + row], after, root, share),
     );
     take(
         taken,
-        (at + layer) % ring,
-        taken_by(z[at + layer], after, pivot, share),
+        round(ring, slot + layer),
+        taken_by(z[at + layer], after, root, share),
     );
-    Pivot::new(pivot)
+    root
 }
 
-/// The pivots of a matrix. `taken` has a place for each point of a layer and one more, and is used up.
-pub fn factorize(couplings: Couplings, taken: &mut [i64], pivots: &mut [Pivot])
+/// The roots of a matrix's pivots. `taken` has a place for each point of a layer and one more, and is used up.
+pub fn factorize(couplings: Couplings, taken: &mut [i64], roots: &mut [Root])
     requires taken { length taken.old ≡ couplings.layout.layer + 1 }
-    requires pivots { length pivots.old ≡ places_of couplings.layout }
+    requires roots { length roots.old ≡ places_of couplings.layout }
 {
     taken.fill(0);
     for at in couplings.layout.first()..couplings.layout.last() {
-        pivots[at] = eliminate(couplings, at, taken);
+        roots[at] = eliminate(couplings, at, taken);
+    }
+}
+
+/// Multiplies each point's coupling with the one so many places before by both of their roots.
+pub fn scale(layout: Layout, couplings: &mut [Coupling], roots: &[Root], before: usize)
+    requires couplings { length couplings.old ≡ places_of layout }
+    requires roots { length roots.now ≡ places_of layout }
+    requires before { before ≤ layout.layer }
+{
+    for at in layout.first()..layout.last() {
+        couplings[at] = roots[at].scaled(couplings[at], roots[at - before]);
     }
 }

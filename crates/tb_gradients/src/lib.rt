@@ -22,7 +22,7 @@ mod kernels;
 mod layout;
 mod matrix;
 mod multiplier;
-mod pivot;
+mod root;
 mod solver;
 mod stencil;
 mod sweep;

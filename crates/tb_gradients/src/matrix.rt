@@ -3,9 +3,9 @@ ghost use Rattle.std.specs.Prelude.{◌≡◌, ◌^◌, ◌<◌, ◌≤◌, ◌+
 ghost use Rattle.tb_gradients.specs.Layouts.{places_of};
 
 use crate::entry::Coupling;
-use crate::factor::{Couplings, factorize};
+use crate::factor::{Couplings, factorize, scale};
 use crate::layout::Layout;
-use crate::pivot::Pivot;
+use crate::root::Root;
 use crate::stencil::{Span, Stencil};
 use std::alloc::{AllocError, Global};
 
@@ -19,8 +19,10 @@ pub enum Neighbour {
     Surroundings,
 }
 
-/// A matrix that couples each point of a box with its six neighbours, and its incomplete factor. A row has the negative
-/// coupling for each neighbour, and on the diagonal the sum of the couplings, those with the surroundings too.
+/// A matrix that couples each point of a box with its six neighbours, and then its incomplete factor. A row has the negative
+/// coupling for each neighbour, and on the diagonal the sum of the couplings, those with the surroundings too. The factor
+/// takes the place of the matrix: each row and column is multiplied by the reciprocal root of its pivot, so that the factor has
+/// ones on its diagonal and the entries of the matrix beside it.
 #[derive(Drop)]
 pub struct Matrix {
     pub layout: Layout,
@@ -29,15 +31,17 @@ pub struct Matrix {
     x: Vec<Coupling>,
     y: Vec<Coupling>,
     z: Vec<Coupling>,
-    // The couplings with the surroundings, and after `finish` the sums of all.
+    // The couplings with the surroundings, and after `sum_up` the sums of all.
     sums: Vec<Coupling>,
-    pivots: Vec<Pivot>,
+    roots: Vec<Root>,
     taken: Vec<i64>,
+    // Whether the couplings and the sums are multiplied by the roots.
+    is_factor: bool,
     ghost whole_x: { vec_len x ≡ places_of layout },
     ghost whole_y: { vec_len y ≡ places_of layout },
     ghost whole_z: { vec_len z ≡ places_of layout },
     ghost whole_sums: { vec_len sums ≡ places_of layout },
-    ghost whole_pivots: { vec_len pivots ≡ places_of layout },
+    ghost whole_roots: { vec_len roots ≡ places_of layout },
     ghost whole_taken: { vec_len taken ≡ layout.layer + 1 },
     ghost counted: { span_count ≤ vec_len spans },
 }
@@ -149,8 +153,9 @@ impl Matrix {
             y: vec![in alloc; Coupling::ZERO; places]?,
             z: vec![in alloc; Coupling::ZERO; places]?,
             sums: vec![in alloc; Coupling::ZERO; places]?,
-            pivots: vec![in alloc; Pivot::ZERO; places]?,
+            roots: vec![in alloc; Root::ZERO; places]?,
             taken: vec![in alloc; 0i64; layout.layer() + 1]?,
+            is_factor: false,
         })
     }
 
@@ -163,6 +168,7 @@ impl Matrix {
         self.z.as_mut_slice().fill(Coupling::ZERO);
         self.sums.as_mut_slice().fill(Coupling::ZERO);
         self.span_count = 0;
+        self.is_factor = false;
     }
 
     /// Adds to the coupling of the point at a place with a neighbour. None, and nothing changes, where there is no such
@@ -178,9 +184,8 @@ impl Matrix {
         }
     }
 
-    /// Sums up the couplings and factorizes the matrix, once all of them are there. The share of the dropped fill that
-    /// goes onto the diagonal is in thousandths. None where a sum is too large.
-    pub fn finish(&mut self, share: u16) -> Option<()>
+    /// Sums up the couplings, once all of them are there: the matrix then multiplies. None where a sum is too large.
+    pub fn sum_up(&mut self) -> Option<()>
         ensures { self.new.layout ≡ self.old.layout }
     {
         let layout = self.layout;
@@ -188,22 +193,49 @@ impl Matrix {
         let y = self.y.as_slice();
         let z = self.z.as_slice();
         sum_up(layout, x, y, z, self.sums.as_mut_slice())?;
-        let sums = self.sums.as_slice();
+        self.span_count = find_spans(layout, self.sums.as_slice(), self.spans.as_mut_slice());
+        Some(())
+    }
+
+    /// Makes of a matrix that is summed up its incomplete factor, by which a solver divides. The matrix then multiplies no
+    /// more. The share of the dropped fill that goes onto the diagonal is in 1,024ths.
+    pub fn factorize(&mut self, share: u16)
+        ensures { self.new.layout ≡ self.old.layout }
+    {
+        let layout = self.layout;
         let couplings = Couplings {
             layout,
-            x,
-            y,
-            z,
-            sums,
+            x: self.x.as_slice(),
+            y: self.y.as_slice(),
+            z: self.z.as_slice(),
+            sums: self.sums.as_slice(),
             share,
         };
         factorize(
             couplings,
             self.taken.as_mut_slice(),
-            self.pivots.as_mut_slice(),
+            self.roots.as_mut_slice(),
         );
-        self.span_count = find_spans(layout, sums, self.spans.as_mut_slice());
+        let roots = self.roots.as_slice();
+        scale(layout, self.x.as_mut_slice(), roots, 1);
+        scale(layout, self.y.as_mut_slice(), roots, layout.row());
+        scale(layout, self.z.as_mut_slice(), roots, layout.layer());
+        scale(layout, self.sums.as_mut_slice(), roots, 0);
+        self.is_factor = true;
+    }
+
+    /// Sums up the couplings and factorizes the matrix. None where a sum is too large.
+    pub fn finish(&mut self, share: u16) -> Option<()>
+        ensures { self.new.layout ≡ self.old.layout }
+    {
+        self.sum_up()?;
+        self.factorize(share);
         Some(())
+    }
+
+    /// Whether the matrix is factorized.
+    pub(crate) fn is_factor(&self) -> bool {
+        self.is_factor
     }
 
     pub(crate) fn stencil(&self) -> Stencil<'_>
@@ -216,7 +248,7 @@ impl Matrix {
             y: self.y.as_slice(),
             z: self.z.as_slice(),
             sums: self.sums.as_slice(),
-            pivots: self.pivots.as_slice(),
+            roots: self.roots.as_slice(),
         }
     }
 }

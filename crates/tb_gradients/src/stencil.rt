@@ -4,7 +4,7 @@ ghost use Rattle.tb_gradients.specs.Layouts.{places_of};
 
 use crate::entry::{Coupling, Entry};
 use crate::layout::Layout;
-use crate::pivot::Pivot;
+use crate::root::Root;
 
 /// Coupled points that follow one another in a list, from the place `first` to before `last`.
 #[derive(Clone, Copy, Debug, PartialEq, Eq)]
@@ -14,7 +14,7 @@ pub struct Span {
 }
 
 /// The couplings of each point with the one before it along each axis, the sum of all of a point's couplings, the
-/// pivots of the incomplete factor, and the spans of coupled points.
+/// reciprocal roots of the incomplete factor's pivots, and the spans of coupled points.
 #[derive(Clone, Copy)]
 pub struct Stencil<'a> {
     pub layout: Layout,
@@ -23,12 +23,12 @@ pub struct Stencil<'a> {
     pub y: &'a [Coupling],
     pub z: &'a [Coupling],
     pub sums: &'a [Coupling],
-    pub pivots: &'a [Pivot],
+    pub roots: &'a [Root],
     pub ghost whole_x: { length x.now ≡ places_of layout },
     pub ghost whole_y: { length y.now ≡ places_of layout },
     pub ghost whole_z: { length z.now ≡ places_of layout },
     pub ghost whole_sums: { length sums.now ≡ places_of layout },
-    pub ghost whole_pivots: { length pivots.now ≡ places_of layout },
+    pub ghost whole_roots: { length roots.now ≡ places_of layout },
 }
 
 /// Whether the points of a span are points of the layout.
@@ -40,9 +40,9 @@ pub fn is_within(layout: Layout, span: Span) -> bool
     layout.first() <= span.first as usize && span.last as usize <= layout.last()
 }
 
-// What two neighbours along an axis add to a point.
+/// What two of a point's neighbours add to it.
 #[inline(always)]
-fn pair(before: Coupling, first: Entry, after: Coupling, second: Entry) -> i128
+pub fn pair(before: Coupling, first: Entry, after: Coupling, second: Entry) -> i128
     ensures { unsigned_abs result ≤ 2 ^ 112 }
 {
     before.times(first) + after.times(second)
@@ -86,14 +86,15 @@ fn multiply_span(
 {
     let mut magnitude = 0;
     for at in span.first as usize..span.last as usize {
-        let entry = Entry::new(row_product(stencil, p, at) >> (shift & 127))?;
+        let entry = Entry::new(row_product(stencil, p, at) >> (shift & 63))?;
         magnitude |= entry.magnitude();
         q[at] = entry;
     }
     Some(magnitude)
 }
 
-/// The matrix times a vector, over `2^shift`, and its greatest magnitude. None where an entry doesn't fit.
+/// The matrix times a vector, over `2^shift` for a shift below 64, and its greatest magnitude. None where an entry doesn't
+/// fit.
 pub fn multiply(stencil: Stencil, p: &[Entry], shift: u8, q: &mut [Entry]) -> Option<i64>
     requires p { length p.now ≡ places_of stencil.layout }
     requires q { length q.old ≡ places_of stencil.layout }

@@ -140,16 +140,16 @@ impl Vector {
         Some(())
     }
 
-    // The exponent at which a multiple of another vector can be added, with 52 bits.
-    fn common_exponent(&self, ratio: Dyadic, other: &Vector) -> i32 {
+    // The exponent at which a multiple of another vector can be added, with one bit more than so many.
+    fn common_exponent(&self, ratio: Dyadic, other: &Vector, bits: i32) -> i32 {
         let top = self.exponent.saturating_add(self.bits());
         let added = ratio.logarithm().saturating_add(other.exponent);
         top.max(added.saturating_add(other.bits()))
-            .saturating_sub(51)
+            .saturating_sub(bits)
     }
 
-    // Halves the entries until the exponent is at least this.
-    fn raise(&mut self, exponent: i32) -> Option<()>
+    /// Halves the entries until the exponent is at least this. None where the exponent is out of range.
+    pub fn raise(&mut self, exponent: i32) -> Option<()>
         ensures { vec_len self.new.entries ≡ vec_len self.old.entries }
     {
         if exponent <= self.exponent {
@@ -159,6 +159,14 @@ impl Vector {
         self.magnitude = multiply_by(self.entries.as_mut_slice(), multiplier)?;
         self.exponent = exponent;
         Some(())
+    }
+
+    /// Halves the entries until the greatest has at most so many bits. None where the exponent is out of range.
+    pub fn shorten(&mut self, bits: i32) -> Option<()>
+        ensures { vec_len self.new.entries ≡ vec_len self.old.entries }
+    {
+        let excess = self.bits().saturating_sub(bits);
+        self.raise(self.exponent.saturating_add(excess))
     }
 
     /// Doubles the entries until the greatest has 50 bits, if it has fewer than 34 and isn't 0.
@@ -176,15 +184,14 @@ impl Vector {
         Some(())
     }
 
-    /// Becomes another vector, less a multiple of what it was. None where an entry doesn't fit. The other is halved where
-    /// the sum needs a greater exponent.
-    pub fn renew(&mut self, ratio: Dyadic, other: &mut Vector) -> Option<()>
+    /// Becomes another vector and a multiple of what it was, with one bit more than so many, or fewer. None where an entry
+    /// doesn't fit. The other is halved where the sum needs a greater exponent.
+    pub fn renew(&mut self, ratio: Dyadic, other: &mut Vector, bits: i32) -> Option<()>
         requires { vec_len self.old.entries ≡ vec_len other.old.entries }
         ensures kept { vec_len self.new.entries ≡ vec_len self.old.entries }
         ensures other { vec_len other.new.entries ≡ vec_len other.old.entries }
     {
-        let ratio = ratio.negative();
-        let exponent = other.common_exponent(ratio, self);
+        let exponent = other.common_exponent(ratio, self, bits);
         other.raise(exponent)?;
         let multiplier = ratio.multiplier(self.exponent, other.exponent)?;
         self.magnitude = renew(
@@ -196,12 +203,13 @@ impl Vector {
         Some(())
     }
 
-    /// Takes a multiple of another vector away, at the exponent that gives 52 bits. None where an entry doesn't fit.
-    pub fn reduce(&mut self, ratio: Dyadic, other: &Vector) -> Option<()>
+    /// Takes a multiple of another vector away, at the exponent that gives one bit more than so many. None where an entry
+    /// doesn't fit.
+    pub fn reduce(&mut self, ratio: Dyadic, other: &Vector, bits: i32) -> Option<()>
         requires { vec_len self.old.entries ≡ vec_len other.now.entries }
         ensures { vec_len self.new.entries ≡ vec_len self.old.entries }
     {
-        let exponent = self.common_exponent(ratio, other);
+        let exponent = self.common_exponent(ratio, other, bits);
         self.raise(exponent)?;
         let whole = PowerOfTwo::new(self.exponent.saturating_sub(exponent))?;
         let multiplier = ratio.multiplier(other.exponent, exponent)?;

@@ -1,5 +1,5 @@
 use Rattle.std.proofs.Common.{◌≡◌, vec_len}
-use Rattle.tb_gradients.proofs.solver.precondition.Given as goal
+use Rattle.tb_gradients.proofs.solver.divide_half.Given as goal
 
 abbrev pub invariant-loop : goal.invariant-loop
 invariant-loop l = vec_len l.s.entries ≡ vec_len l.initial.s.entries
