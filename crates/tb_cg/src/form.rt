@@ -150,9 +150,9 @@ impl Form {
 
     /// Makes `q` the derivative of the energy at the field `p`, over `2^shift`, where the warm environments have a level
     /// and the others 0. Gives a number with as many bits as the greatest entry. None where an entry doesn't fit, or the
-    /// lists have other lengths than the layout asks for, or the shift is above 61.
+    /// lists have other lengths than the layout asks for, or the shift is above 125.
     pub fn derivative(&self, p: &[Entry], level: Entry, shift: u8, q: &mut [Entry]) -> Option<i64> {
-        if p.len() != self.points.layout.places() || q.len() != p.len() || shift > 61 {
+        if p.len() != self.points.layout.places() || q.len() != p.len() || shift > 125 {
             return None;
         }
         q.fill(Entry::ZERO);

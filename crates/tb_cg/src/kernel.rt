@@ -143,7 +143,7 @@ fn force(weight: i64, mode: i64, shift: u8) -> Option<i64>
     requires mode { unsigned_abs mode ≤ 2 ^ 56 }
     ensures { IfSome result (λ f. unsigned_abs f ≤ 2 ^ 58) }
 {
-    let product = (i128::from(weight) * i128::from(mode)) >> (shift & 63);
+    let product = (i128::from(weight) * i128::from(mode)) >> (shift & 127);
     if product < -MOST_FORCE || product > MOST_FORCE {
         return None;
     }

@@ -198,11 +198,13 @@ fn a_field_starts_at_the_means_of_the_cells(rt: HostRuntime) -> Result<(), Fail>
     Ok(())
 }
 
-// One cell of 100 by 200 by 400 mm, whose weights along x, y and z are as 16 to 4 to 1.
+const BLOCK: [Filling; 8] = [Filling::Solid { lambda: 10_000 }; 8];
+
+// Cells of 100 by 200 by 400 mm, two along each axis, whose weights along x, y and z are as 16 to 4 to 1.
 fn block(alloc: Global) -> Result<Grid, Fail> {
-    let x = axis(alloc, [0, 1_000].as_slice())?;
-    let y = axis(alloc, [0, 2_000].as_slice())?;
-    let z = axis(alloc, [0, 4_000].as_slice())?;
+    let x = axis(alloc, [0, 1_000, 2_000].as_slice())?;
+    let y = axis(alloc, [0, 2_000, 4_000].as_slice())?;
+    let z = axis(alloc, [0, 4_000, 8_000].as_slice())?;
     Ok(Grid::new(x, y, z)?)
 }
 
@@ -210,45 +212,45 @@ fn cells_of_block(grid: &Grid) -> Cells<'static> {
     Cells {
         counts: grid.counts(),
         x: CellAxis {
-            widths: &[1_000],
-            bases: &[0],
+            widths: &[1_000, 1_000],
+            bases: &[0, 1],
         },
         y: CellAxis {
-            widths: &[2_000],
-            bases: &[0],
+            widths: &[2_000, 2_000],
+            bases: &[0, 1],
         },
         z: CellAxis {
-            widths: &[4_000],
-            bases: &[0],
+            widths: &[4_000, 4_000],
+            bases: &[0, 1],
         },
         base: grid.counts(),
-        fillings: &[Filling::Solid { lambda: 10_000 }],
+        fillings: &BLOCK,
     }
 }
 
-// The corners, along x first.
+// The corners of the last cell, along x first.
 const CORNERS: [Place; 8] = [
-    Place { i: 0, j: 0, k: 0 },
-    Place { i: 1, j: 0, k: 0 },
-    Place { i: 0, j: 1, k: 0 },
-    Place { i: 1, j: 1, k: 0 },
-    Place { i: 0, j: 0, k: 1 },
-    Place { i: 1, j: 0, k: 1 },
-    Place { i: 0, j: 1, k: 1 },
     Place { i: 1, j: 1, k: 1 },
+    Place { i: 2, j: 1, k: 1 },
+    Place { i: 1, j: 2, k: 1 },
+    Place { i: 2, j: 2, k: 1 },
+    Place { i: 1, j: 1, k: 2 },
+    Place { i: 2, j: 1, k: 2 },
+    Place { i: 1, j: 2, k: 2 },
+    Place { i: 2, j: 2, k: 2 },
 ];
 
 // By hand, where the last corner alone is warm: along each axis an edge counts 4, those beside it 2, the one across 1.
 const FORCES: [i64; 8] = [-21, 6, -30, 36, -39, 18, -54, 84];
 
-// The derivative of the block's energy where its last corner alone is warm.
+// The derivative of the block's energy where its last corner alone is warm, at the corners of the last cell.
 fn derivative_of(alloc: Global, cells: Cells) -> Result<Vec<i64>, AllocError> {
     let mut forces = Vec::new(alloc);
     if let Some(points) = Points::new(cells.counts) {
         let form = Form::new(alloc, cells, points)?;
         let mut p = vec![in alloc; Entry::ZERO; points.layout.places()]?;
         let mut q = vec![in alloc; Entry::ZERO; points.layout.places()]?;
-        let last = points.at(Place { i: 1, j: 1, k: 1 });
+        let last = points.at(Place { i: 2, j: 2, k: 2 });
         if last < p.len() {
             p[last] = Entry::new(1i128 << 50).unwrap_or(Entry::ZERO);
         }
