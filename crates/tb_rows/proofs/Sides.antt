@@ -16,6 +16,17 @@ use Rattle.tb_rows.proofs.Filled.{below_pred}
 use Rattle.tb_rows.proofs.Grids.{counts_are}
 use Rattle.tb_rows.proofs.Reordering.{above_within}
 
+-- between its ends another cell of the run lies beside
+pub own_below : (run : Run) (i : ℕ) → run.from < i → low_at run i ≡ Some (Solid run.lambda)
+own_below run i l =
+    let test : (i == run.from) ≡ false = grind (arith, nat_tests) in
+    ap (λ (b : Bool). if b then run.low_x else Some (Solid run.lambda)) test
+
+pub own_above : (run : Run) (i : ℕ) → i + 1 < run.to → high_at run i ≡ Some (Solid run.lambda)
+own_above run i l =
+    let test : (i + 1 == run.to) ≡ false = grind (arith, nat_tests) in
+    ap (λ (b : Bool). if b then run.high_x else Some (Solid run.lambda)) test
+
 pub low_is : (f : Rows) (run : Run) (i j k : ℕ) → IsRunOf f j k run → run.from ≤ i → i < run.to → low_at run i ≡ filled_below f.body.now f.grid.now X i j k
 low_is f run i j k of low high = by_order (from_or_above i run.from low)
   where
@@ -27,8 +38,7 @@ low_is f run i j k of low high = by_order (from_or_above i run.from low)
         let test : (i == run.from) ≡ true = grind (arith, nat_tests) in
         ap (λ (b : Bool). if b then run.low_x else Some (Solid run.lambda)) test ∙ of.low_x ∙ sym (ap (λ (n : ℕ). filled_below f.body.now f.grid.now X n j k) e)
     by_order (inr l) =
-        let test : (i == run.from) ≡ false = grind (arith, nat_tests) in
-        ap (λ (b : Bool). if b then run.low_x else Some (Solid run.lambda)) test ∙ of.own (i - 1) (omega arith) (omega arith)
+        own_below run i l ∙ of.own (i - 1) (omega arith) (omega arith)
         ∙ sym (ap (option_map (filled_with f.body.now.materials)) (below_pred (λ n. (mesh_on f.body.now f.grid.now).occupant n j k) i (omega arith)))
 
 pub high_is : (f : Rows) (run : Run) (i j k : ℕ) → IsRunOf f j k run → run.from ≤ i → i < run.to → high_at run i ≡ filled_above f.body.now f.grid.now X (suc i) j k
@@ -42,9 +52,8 @@ high_is f run i j k of low high = by_order (last_or_before i run.to high)
         let test : (i + 1 == run.to) ≡ true = grind (arith, nat_tests) in
         ap (λ (b : Bool). if b then run.high_x else Some (Solid run.lambda)) test ∙ of.high_x ∙ sym (ap (λ (n : ℕ). filled_above f.body.now f.grid.now X n j k) (sym (add-one i) ∙ e))
     by_order (inr l) =
-        let test : (i + 1 == run.to) ≡ false = grind (arith, nat_tests) in
         let within : run.to ≤ counts_of f.grid.now X = of.within in
         let is = counts_are f.grid.now X in
-        ap (λ (b : Bool). if b then run.high_x else Some (Solid run.lambda)) test ∙ of.own (suc i) (omega arith) (omega arith)
+        own_above run i l ∙ of.own (suc i) (omega arith) (omega arith)
         ∙ sym (ap (option_map (filled_with f.body.now.materials))
         (above_within ((mesh_on f.body.now f.grid.now).cells X) (suc i) (λ n. (mesh_on f.body.now f.grid.now).occupant n j k) (omega (arith, within, is, l))))

@@ -23,14 +23,30 @@ impl Divisor {
         requires { 0 < divisor }
         ensures { result.divisor ≡ divisor }
     {
+        Divisor::with_inverse(divisor, inverse(divisor, divisor.ilog2()))
+    }
+
+    /// A divisor, with the inverse that one of the same value has ([`Divisor::inverse`]). With another inverse its
+    /// quotients are the same, and take longer.
+    #[inline]
+    pub fn with_inverse(divisor: u64, inverse: u64) -> Divisor
+        requires { 0 < divisor }
+        ensures { result.divisor ≡ divisor }
+    {
         let size = divisor.ilog2();
         let before = size.saturating_sub(SPARE);
         Divisor {
             divisor,
-            inverse: inverse(divisor, size),
+            inverse,
             before,
             after: size - before,
         }
+    }
+
+    /// What its quotients are guessed from.
+    #[inline]
+    pub fn inverse(self) -> u64 {
+        self.inverse
     }
 
     /// The product of two divisors, with no division.
@@ -40,20 +56,14 @@ impl Divisor {
         ensures { result.divisor ≡ self.divisor * other.divisor }
     {
         let divisor = self.divisor * other.divisor;
-        let size = divisor.ilog2();
-        let before = size.saturating_sub(SPARE);
         let inverse = u128::from(self.inverse) * u128::from(other.inverse);
         let sizes = self.divisor.ilog2() + other.divisor.ilog2();
-        Divisor {
-            divisor,
-            inverse: if size > sizes {
-                low_half(inverse >> 63)
-            } else {
-                high_half(inverse)
-            },
-            before,
-            after: size - before,
-        }
+        let inverse = if divisor.ilog2() > sizes {
+            low_half(inverse >> 63)
+        } else {
+            high_half(inverse)
+        };
+        Divisor::with_inverse(divisor, inverse)
     }
 
     /// The divisor.
@@ -101,29 +111,42 @@ fn inverse(divisor: u64, size: u32) -> u64
 pub fn quotient_up(n: u128, by: Divisor) -> u128
     ensures { result ≡ div_ceil n by.divisor }
 {
+    if n == 0 {
+        return 0;
+    }
     let divisor = u128::from(by.divisor);
     let guess = u128::from(by.guess(n));
     let product = guess * divisor;
     if product > n {
         return plain_up(n, divisor);
     }
-    guess + few_up(n - product, divisor)
+    guess + rest_up(n - product, by.divisor)
 }
 
 // The quotient rounded up, fast where it is small.
 #[inline]
-fn few_up(n: u128, divisor: u128) -> u128
-    requires positive { 0 < divisor }
-    requires short { divisor < 2 ^ 64 }
+fn rest_up(n: u128, divisor: u64) -> u128
+    requires { 0 < divisor }
+    ensures { result ≡ div_ceil n divisor }
+{
+    if n > 0xFFFF_FFFF_FFFF_FFFF {
+        return plain_up(n, u128::from(divisor));
+    }
+    u128::from(few_up(n as u64, divisor))
+}
+
+#[inline]
+fn few_up(n: u64, divisor: u64) -> u64
+    requires { 0 < divisor }
     ensures { result ≡ div_ceil n divisor }
 {
     if n <= divisor {
         return if n > 0 { 1 } else { 0 };
     }
-    if n <= 2 * divisor {
+    if n - divisor <= divisor {
         return 2;
     }
-    plain_up(n, divisor)
+    n.div_ceil(divisor)
 }
 
 #[cold]

@@ -1,8 +1,8 @@
 // The cells of a row that lie in one base interval along x.
-ghost use Rattle.std.specs.Prelude.{◌≡◌, ◌+◌, ◌^◌, ◌<◌, IfSome};
+ghost use Rattle.std.specs.Prelude.{◌≡◌, ◌+◌, ◌^◌, ◌<◌, ◌↔◌, IfSome, IsTrue};
 ghost use Rattle.std.proofs.Props.{props};
 ghost use Rattle.tb_terms.specs.Limits.{IsConductivity};
-ghost use Rattle.tb_rows.specs.Filled.{IsFilled};
+ghost use Rattle.tb_rows.specs.Filled.{IsAir, IsFilled};
 
 use tb_geometry::Occupant;
 
@@ -40,10 +40,22 @@ pub struct Run {
     pub ghost filled_high_z: { IfSome high_z IsFilled } by { Prim.hlevel props },
 }
 
+// Whether air lies beside a cell.
+#[inline]
+fn is_air(beside: Option<Occupant>) -> bool
+    ensures { IsTrue result ↔ IsAir beside }
+{
+    match beside {
+        Some(Occupant::Air { .. }) => true,
+        Some(Occupant::Solid { .. }) => false,
+        None => false,
+    }
+}
+
 impl Run {
     ghost use Rattle.std.specs.Prelude.{Some};
     ghost use Rattle.tb_geometry.specs.declared.occupant.Occupant.TheVariants.{Solid};
-    ghost use Rattle.tb_rows.specs.Runs.{high_at, low_at};
+    ghost use Rattle.tb_rows.specs.Runs.{IsClosed, high_at, low_at};
 
     // What fills its cells.
     #[inline]
@@ -54,6 +66,13 @@ impl Run {
         Some(Occupant::Solid {
             lambda: self.lambda,
         })
+    }
+
+    /// Whether no air lies beside its cells along y and z.
+    pub fn is_closed(&self) -> bool
+        ensures { IsTrue result ↔ IsClosed self.now }
+    {
+        !is_air(self.low_y) && !is_air(self.high_y) && !is_air(self.low_z) && !is_air(self.high_z)
     }
 
     /// What lies beside a cell along x, on its low side.

@@ -1,4 +1,5 @@
 pub mod Cases
+pub mod ClosedRuns
 pub mod EndSums
 pub mod FluxMeets
 pub mod Kept

@@ -12,11 +12,12 @@ use Rattle.tb_sums.specs.declared.energy.BodyField.{BodyField}
 use Rattle.tb_sums.specs.declared.row.NodeRows.{NodeRows}
 use Rattle.tb_sums.specs.declared.row.Row.{Row}
 
--- the grid carries the body, and the temperatures are within limits, one for each node
+-- the grid carries the body, and the temperatures are within limits, one for each node; there is an inverse for each width along x
 pub record IsBodyField (f : BodyField) : Type 0 where
   pub rows : AreRows f.rows
   pub count : FitsNodes (counts_of f.rows.grid.now) f.temperatures.now
   pub warm : AreTemperatures f.temperatures.now
+  pub room : counts_of f.rows.grid.now X ≤ length f.inverses.now
 
 -- the terms of the energy on the mesh
 abbrev pub terms_under : BodyField → Terms

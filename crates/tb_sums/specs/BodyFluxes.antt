@@ -1,5 +1,5 @@
 -- A flux on a grid that carries a body, and the flows along its rows.
-use Rattle.std.specs.Prelude.{ℕ, ◌+◌, ◌<◌, ◌≡◌, List, length, slice_index_or, ℤ, pos}
+use Rattle.std.specs.Prelude.{ℕ, ◌+◌, ◌<◌, ◌≤◌, ◌≡◌, List, length, slice_index_or, ℤ, pos}
 use Rattle.tb_places.specs.declared.AxisName.{AxisName}
 use Rattle.tb_places.specs.declared.AxisName.TheVariants.{X, Y, Z}
 use Rattle.tb_places.specs.Places.{face_number, place_at}
@@ -13,11 +13,12 @@ use Rattle.tb_sums.specs.declared.flow_row.FlowRow.{FlowRow}
 use Rattle.tb_sums.specs.declared.flow_row.FlowRows.{FlowRows}
 use Rattle.tb_sums.specs.declared.flux.BodyFlux.{BodyFlux}
 
--- the grid carries the body, and the flows are within limits, one for each face
+-- the grid carries the body, and the flows are within limits, one for each face; there is an inverse for each width along x
 pub record IsBodyFlux (f : BodyFlux) : Type 0 where
   pub rows : AreRows f.rows
   pub count : FitsFaces (counts_of f.rows.grid.now) f.flows.now
   pub flows : AreFlows f.flows.now
+  pub room : counts_of f.rows.grid.now X ≤ length f.inverses.now
 
 -- the terms of the loss on the mesh, and those of what enters
 abbrev pub loss_under : BodyFlux → Terms

@@ -9,10 +9,12 @@ ghost use Rattle.tb_flux.specs.Fluxes.{AreFlows, FitsFaces, flux_on};
 
 use crate::energy::BodyField;
 use crate::flux::BodyFlux;
+use crate::interval::ENERGIES;
+use crate::inverses::{MOST_INTERVALS, put_inverses};
 use tb_field::Field;
 use tb_flux::Flux;
 use tb_geometry::{Body, Case};
-use tb_grid::Grid;
+use tb_grid::{AxisName, Grid};
 use tb_numbers::PastLimit;
 use tb_rows::Rows;
 
@@ -25,10 +27,14 @@ pub fn upper_end(body: &Body, grid: &Grid, field: &Field, case: Case) -> i128
     ensures value { result ≡ upper_end (mesh_on body.now grid.now) (case_of case.mask) (field_on grid.now field.now) }
     ensures size { unsigned_abs result ≤ 2 ^ 120 }
 {
+    let rows = Rows::new(body, grid);
+    let mut inverses = [0; MOST_INTERVALS];
+    put_inverses(ENERGIES, grid.axis(AxisName::X).lines(), &mut inverses);
     let field = BodyField {
-        rows: Rows::new(body, grid),
+        rows,
         temperatures: field.values(),
         case,
+        inverses: inverses.as_slice(),
     };
     field.energy() as i128
 }
@@ -48,10 +54,14 @@ pub fn lower_end(body: &Body, grid: &Grid, flux: &Flux, case: Case) -> Result<i1
     ensures past_limit { let m = mesh_on body.now grid.now in
         IsErr result ↔ (pos (2 ^ 120) <ℤ rounded_up m (flux_terms m (flux_on grid.now flux.now))) }
 {
+    let rows = Rows::new(body, grid);
+    let mut inverses = [0; MOST_INTERVALS];
+    put_inverses(1, grid.axis(AxisName::X).lines(), &mut inverses);
     let flux = BodyFlux {
-        rows: Rows::new(body, grid),
+        rows,
         flows: flux.values(),
         case,
+        inverses: inverses.as_slice(),
     };
     let sums = flux.sums()?;
     Ok(source_less(sums.entering, sums.loss))

@@ -13,12 +13,14 @@ use tb_geometry::Case;
 use tb_grid::{AxisName, Place};
 use tb_rows::{Around, Rows};
 
-/// A field on a grid that carries a body, and a case: one temperature for each node, in 10⁻⁸ of the difference.
+/// A field on a grid that carries a body, and a case: one temperature for each node, in 10⁻⁸ of the difference. With it
+/// come inverses of the divisors along x.
 #[derive(Clone, Copy)]
 pub struct BodyField<'a> {
     pub rows: Rows<'a>,
     pub temperatures: &'a [i64],
     pub case: Case,
+    pub inverses: &'a [u64],
 }
 
 impl<'a> BodyField<'a> {
@@ -59,6 +61,7 @@ impl<'a> BodyField<'a> {
     {
         Row {
             lines: self.rows.grid.axis(AxisName::X).lines(),
+            inverses: self.inverses,
             y: Interval::new(self.rows.width(AxisName::Y, j)),
             z: Interval::new(self.rows.width(AxisName::Z, k)),
             nodes: self.node_rows(j, k),

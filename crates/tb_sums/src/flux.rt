@@ -9,12 +9,14 @@ use tb_geometry::Case;
 use tb_grid::{AxisName, Place};
 use tb_rows::Rows;
 
-/// A flux on a grid that carries a body, and a case: one flow for each face, in nW per unit difference.
+/// A flux on a grid that carries a body, and a case: one flow for each face, in nW per unit difference. With it come
+/// inverses of the widths along x.
 #[derive(Clone, Copy)]
 pub struct BodyFlux<'a> {
     pub rows: Rows<'a>,
     pub flows: &'a [i64],
     pub case: Case,
+    pub inverses: &'a [u64],
 }
 
 impl<'a> BodyFlux<'a> {
@@ -85,6 +87,7 @@ impl<'a> BodyFlux<'a> {
     {
         FlowRow {
             lines: self.rows.grid.axis(AxisName::X).lines(),
+            inverses: self.inverses,
             y: Width::new(self.rows.width(AxisName::Y, j)),
             z: Width::new(self.rows.width(AxisName::Z, k)),
             flows: self.flow_rows(j, k),

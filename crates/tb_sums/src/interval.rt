@@ -4,6 +4,9 @@ ghost use Rattle.tb_terms.specs.Limits.{IsWidth};
 
 use tb_rows::Divisor;
 
+/// The divisor of energies along an axis is so many times a width.
+pub const ENERGIES: u64 = 36_000_000_000;
+
 /// The cells at an index along an axis: their width in 0.1 mm, and the divisor of their energies along the axis.
 #[derive(Clone, Copy, Debug)]
 pub struct Interval {
@@ -21,20 +24,19 @@ impl Interval {
     {
         Interval {
             width,
-            energy: Divisor::new(36_000_000_000 * u64::from(width)),
+            energy: Divisor::new(ENERGIES * u64::from(width)),
         }
     }
 
-    /// Cells of a width, with the divisor at hand where these have the same width.
+    /// Cells of a width, with the inverse of their divisor at hand.
     #[inline]
-    pub fn or_new(self, width: u32) -> Interval
+    pub fn with_inverse(width: u32, inverse: u64) -> Interval
         requires { IsWidth width }
         ensures { result.width ≡ width }
     {
-        if width == self.width {
-            self
-        } else {
-            Interval::new(width)
+        Interval {
+            width,
+            energy: Divisor::with_inverse(ENERGIES * u64::from(width), inverse),
         }
     }
 }

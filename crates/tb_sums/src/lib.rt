@@ -16,6 +16,7 @@ mod energy;
 mod flow_row;
 mod flux;
 mod interval;
+mod inverses;
 mod modes;
 mod row;
 mod sides;

@@ -19,11 +19,12 @@ pub struct NodeRows<'a> {
     pub t11: &'a [i64],
 }
 
-/// A row of cells: the lines across x, its intervals along y and z, and the temperatures at its nodes. In the mask bit e
-/// is set where environment e is in the case.
+/// A row of cells: the lines across x, the inverses of the divisors between them, its intervals along y and z, and the
+/// temperatures at its nodes. In the mask bit e is set where environment e is in the case.
 #[derive(Clone, Copy)]
 pub struct Row<'a> {
     pub lines: &'a [u32],
+    pub inverses: &'a [u64],
     pub y: Interval,
     pub z: Interval,
     pub nodes: NodeRows<'a>,
@@ -38,18 +39,21 @@ pub struct Row<'a> {
     pub ghost warm_01: { AreTemperatures nodes.t01.now },
     pub ghost warm_11: { AreTemperatures nodes.t11.now },
     pub ghost few: { length lines.now ≤ 1024 },
+    pub ghost room: { length lines.now ≤ length inverses.now + 1 },
 }
 
 impl Row<'_> {
     ghost use Rattle.std.specs.Prelude.{slice_index};
-    ghost use Rattle.tb_sums.specs.RunSums.{run_up, solid_at};
+    ghost use Rattle.tb_rows.specs.Runs.{IsClosed};
+    ghost use Rattle.tb_terms.specs.Limits.{IsConductivity};
+    ghost use Rattle.tb_sums.specs.RunSums.{inside_at, inside_up, run_up, sides_at, sides_up};
 
     #[inline]
-    fn width(&self, i: usize) -> u32
+    fn interval(&self, i: usize) -> Interval
         requires { i + 1 < length self.now.lines.now }
-        ensures { result ≡ slice_index self.now.lines.now (i + 1) - slice_index self.now.lines.now i }
+        ensures { result.width ≡ slice_index self.now.lines.now (i + 1) - slice_index self.now.lines.now i }
     {
-        self.lines[i + 1] - self.lines[i]
+        Interval::with_inverse(self.lines[i + 1] - self.lines[i], self.inverses[i])
     }
 
     #[inline]
@@ -71,40 +75,94 @@ impl Row<'_> {
         }
     }
 
-    // The energy of a cell of a run, with its surfaces.
+    // The energy inside a solid cell.
     #[inline]
-    fn solid(&self, run: &Run, i: u32, x: Interval) -> u128
+    fn inside(&self, lambda: u32, i: usize) -> u128
+        requires conductivity { IsConductivity lambda }
         requires within { i + 1 < length self.now.lines.now }
-        requires width { x.width ≡ slice_index self.now.lines.now (i + 1) - slice_index self.now.lines.now i }
-        ensures value { pos result ≡ solid_at self.now run.now i }
-        ensures most { result ≤ 10 ^ 26 }
+        ensures value { pos result ≡ inside_at self.now lambda i }
+        ensures most { result ≤ 375 * 10 ^ 23 }
+    {
+        let at = Cuboid {
+            x: self.interval(i),
+            y: self.y,
+            z: self.z,
+        };
+        solid_energy(lambda, at, self.corners(i))
+    }
+
+    // The energy inside the cells of a run. Its loop asks for nothing but the terms.
+    fn inside_all(&self, run: &Run) -> u128
+        requires from { run.now.from < run.now.to }
+        requires to { run.now.to < length self.now.lines.now }
+        ensures value { pos result ≡ inside_up self.now run.now (run.now.to - run.now.from) }
+        ensures most { result ≤ (run.now.to - run.now.from) * (375 * 10 ^ 23) }
+    {
+        let mut total = 0u128;
+        for n in 0..run.to - run.from {
+            total += self.inside(run.lambda, (run.from + n) as usize);
+        }
+        total
+    }
+
+    // The energy of the surfaces at the sides of a cell of a run.
+    fn sides(&self, run: &Run, i: u32) -> u128
+        requires { i + 1 < length self.now.lines.now }
+        ensures value { pos result ≡ sides_at self.now run.now i }
+        ensures most { result ≤ 15 * 10 ^ 22 }
     {
         let t = self.corners(i as usize);
         let at = Cuboid {
-            x,
+            x: self.interval(i as usize),
             y: self.y,
             z: self.z,
         };
         let x = sides_x(self.mask, run.low_at(i), run.high_at(i), at, t);
         let y = sides_y(self.mask, run.low_y, run.high_y, at, t);
         let z = sides_z(self.mask, run.low_z, run.high_z, at, t);
-        solid_energy(run.lambda, at, t) + (x + (y + z))
+        x + (y + z)
+    }
+
+    // Of a run with no air along y and z: only its ends have surfaces.
+    fn sides_at_ends(&self, run: &Run) -> u128
+        requires from { run.now.from < run.now.to }
+        requires to { run.now.to < length self.now.lines.now }
+        requires closed { IsClosed run.now }
+        ensures value { pos result ≡ sides_up self.now run.now (run.now.to - run.now.from) }
+        ensures most { result ≤ (run.now.to - run.now.from) * (15 * 10 ^ 22) }
+    {
+        let first = self.sides(run, run.from);
+        let last = run.to - 1;
+        if run.from == last {
+            return first;
+        }
+        first + self.sides(run, last)
+    }
+
+    // The energy of the surfaces at the sides of the cells of a run.
+    fn sides_all(&self, run: &Run) -> u128
+        requires from { run.now.from < run.now.to }
+        requires to { run.now.to < length self.now.lines.now }
+        ensures value { pos result ≡ sides_up self.now run.now (run.now.to - run.now.from) }
+        ensures most { result ≤ (run.now.to - run.now.from) * (15 * 10 ^ 22) }
+    {
+        if run.is_closed() {
+            return self.sides_at_ends(run);
+        }
+        let mut total = 0u128;
+        for n in 0..run.to - run.from {
+            total += self.sides(run, run.from + n);
+        }
+        total
     }
 
     /// The energy of a run of solid cells, with their surfaces.
     pub fn run(&self, run: &Run) -> u128
-        requires from { run.now.from ≤ run.now.to }
+        requires from { run.now.from < run.now.to }
         requires to { run.now.to < length self.now.lines.now }
         ensures value { pos result ≡ run_up self.now run.now (run.now.to - run.now.from) }
         ensures most { result ≤ (run.now.to - run.now.from) * 10 ^ 26 }
     {
-        let mut total = 0u128;
-        let mut x = self.y;
-        for n in 0..run.to - run.from {
-            let i = run.from + n;
-            x = x.or_new(self.width(i as usize));
-            total += self.solid(run, i, x);
-        }
-        total
+        self.inside_all(run) + self.sides_all(run)
     }
 }

@@ -25,28 +25,23 @@ pub struct CellFlows {
     pub z: Through,
 }
 
-/// A solid cell: its conductivity, its widths, and the divisors of its losses along x, y and z. Those of three times the
-/// conductivity and one width serve all cells of a run.
+/// A solid cell: its conductivity and widths, and what the divisors of its losses along x, y and z are made of. Three times
+/// the conductivity and a width, or the cross-section of x, serve all cells of a run.
 #[derive(Clone, Copy)]
 pub struct SolidCell {
     pub lambda: u32,
-    pub x: u32,
+    pub x: Width,
     pub y: u32,
     pub z: u32,
     triple_y: Divisor,
     triple_z: Divisor,
     along_x: Divisor,
-    along_y: Divisor,
-    along_z: Divisor,
     pub ghost conductivity: { IsConductivity lambda },
-    pub ghost fits_x: { IsWidth x },
     pub ghost fits_y: { IsWidth y },
     pub ghost fits_z: { IsWidth z },
     pub ghost by_y: { triple_y.divisor ≡ 3 * (lambda * y) },
     pub ghost by_z: { triple_z.divisor ≡ 3 * (lambda * z) },
     pub ghost by_section_x: { along_x.divisor ≡ 3 * (lambda * (y * z)) },
-    pub ghost by_section_y: { along_y.divisor ≡ 3 * (lambda * (z * x)) },
-    pub ghost by_section_z: { along_z.divisor ≡ 3 * (lambda * (y * x)) },
 }
 
 // Three times a conductivity and a width.
@@ -75,39 +70,31 @@ impl SolidCell {
     pub fn new(lambda: u32, x: Width, y: Width, z: Width) -> SolidCell
         requires { IsConductivity lambda }
         ensures lambda { result.lambda ≡ lambda }
-        ensures x { result.x ≡ x.width }
+        ensures x { result.x ≡ x }
         ensures y { result.y ≡ y.width }
         ensures z { result.z ≡ z.width }
     {
         let triple = Divisor::new(3 * u64::from(lambda));
         let triple_y = with_width(triple, lambda, y);
-        let triple_z = with_width(triple, lambda, z);
         SolidCell {
             lambda,
-            x: x.width,
+            x,
             y: y.width,
             z: z.width,
             triple_y,
-            triple_z,
+            triple_z: with_width(triple, lambda, z),
             along_x: with_section(triple_y, lambda, y.width, z),
-            along_y: with_section(triple_z, lambda, z.width, x),
-            along_z: with_section(triple_y, lambda, y.width, x),
         }
     }
 
     /// The cell of another width along x beside it.
     #[inline]
-    pub fn of_width(self, x: u32) -> SolidCell
-        requires { IsWidth x }
+    pub fn of_width(self, x: Width) -> SolidCell
         ensures lambda { result.lambda ≡ self.lambda }
         ensures x { result.x ≡ x }
         ensures y { result.y ≡ self.y }
         ensures z { result.z ≡ self.z }
     {
-        if x == self.x {
-            return self;
-        }
-        let width = Width::new(x);
         SolidCell {
             lambda: self.lambda,
             x,
@@ -116,8 +103,6 @@ impl SolidCell {
             triple_y: self.triple_y,
             triple_z: self.triple_z,
             along_x: self.along_x,
-            along_y: with_section(self.triple_z, self.lambda, self.z, width),
-            along_z: with_section(self.triple_y, self.lambda, self.y, width),
         }
     }
 
@@ -125,7 +110,7 @@ impl SolidCell {
     #[inline]
     pub fn loss(self, flows: CellFlows) -> u128
         requires { HaveFlows flows }
-        ensures value { pos result ≡ solid_loss_up self.lambda self.x self.y self.z flows }
+        ensures value { pos result ≡ solid_loss_up self.lambda self.x.width self.y self.z flows }
         ensures most { result ≤ 15 * 10 ^ 34 }
     {
         self.loss_along_x(flows) + self.loss_along_y(flows) + self.loss_along_z(flows)
@@ -134,7 +119,7 @@ impl SolidCell {
     #[inline]
     fn loss_along_x(self, flows: CellFlows) -> u128
         requires { HaveFlows flows }
-        ensures value { pos result ≡ ceiling (flux_cell_term (loss_cell self.lambda self.x self.y self.z flows.x)) }
+        ensures value { pos result ≡ ceiling (flux_cell_term (loss_cell self.lambda self.x.width self.y self.z flows.x)) }
         ensures most { result ≤ 5 * 10 ^ 34 }
     {
         let Self {
@@ -144,13 +129,13 @@ impl SolidCell {
             z,
             ..
         } = self;
-        axis_loss(lambda, x, y, z, self.along_x, flows.x)
+        axis_loss(lambda, x.width, y, z, self.along_x, flows.x)
     }
 
     #[inline]
     fn loss_along_y(self, flows: CellFlows) -> u128
         requires { HaveFlows flows }
-        ensures value { pos result ≡ ceiling (flux_cell_term (loss_cell self.lambda self.y self.x self.z flows.y)) }
+        ensures value { pos result ≡ ceiling (flux_cell_term (loss_cell self.lambda self.y self.x.width self.z flows.y)) }
         ensures most { result ≤ 5 * 10 ^ 34 }
     {
         let Self {
@@ -160,13 +145,14 @@ impl SolidCell {
             z,
             ..
         } = self;
-        axis_loss(lambda, y, x, z, self.along_y, flows.y)
+        let by = with_section(self.triple_z, lambda, z, x);
+        axis_loss(lambda, y, x.width, z, by, flows.y)
     }
 
     #[inline]
     fn loss_along_z(self, flows: CellFlows) -> u128
         requires { HaveFlows flows }
-        ensures value { pos result ≡ ceiling (flux_cell_term (loss_cell self.lambda self.z self.x self.y flows.z)) }
+        ensures value { pos result ≡ ceiling (flux_cell_term (loss_cell self.lambda self.z self.x.width self.y flows.z)) }
         ensures most { result ≤ 5 * 10 ^ 34 }
     {
         let Self {
@@ -176,7 +162,8 @@ impl SolidCell {
             z,
             ..
         } = self;
-        axis_loss(lambda, z, x, y, self.along_z, flows.z)
+        let by = with_section(self.triple_y, lambda, y, x);
+        axis_loss(lambda, z, x.width, y, by, flows.z)
     }
 }
 

@@ -23,4 +23,16 @@ impl Width {
             divisor: Divisor::new(u64::from(width)),
         }
     }
+
+    /// A width, with the inverse of its divisor at hand.
+    #[inline]
+    pub fn with_inverse(width: u32, inverse: u64) -> Width
+        requires { IsWidth width }
+        ensures { result.width ≡ width }
+    {
+        Width {
+            width,
+            divisor: Divisor::with_inverse(u64::from(width), inverse),
+        }
+    }
 }

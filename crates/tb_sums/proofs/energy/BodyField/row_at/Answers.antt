@@ -22,4 +22,5 @@ invariant_of-result c =
       warm_01 = n.t01.warm;
       warm_11 = n.t11.warm;
       few = let most = axis.most in let m = subst (λ (lines : List ℕ). length lines ≤ 1024) x most in omega (arith, e, m);
+      room = let r = h.room in omega (arith, e, least2, r);
     }

@@ -1,24 +1,12 @@
-use Rattle.std.proofs.Common.{◌∙◌, arith}
-use Rattle.tb_sums.proofs.LossRuns.{loss_start, loss_step}
-use Rattle.tb_sums.proofs.Runs.{one_more}
+use Rattle.std.proofs.Common.{◌∙◌, ◌-◌, arith}
+use Rattle.tb_sums.proofs.LossRuns.{loss_parts}
+use Rattle.tb_sums.proofs.Runs.{two_parts}
 use Rattle.tb_sums.proofs.flow_row.FlowRow.loss.Goals as goal
 
-pub loop-n-init : goal.loop-n-init
-loop-n-init c = record {
-  value = loss_start c.args.self.now c.args.run.now;
-  most = omega arith;
-  lambda = c.new-cell.ensures.lambda;
-  y = c.new-cell.ensures.y;
-  z = c.new-cell.ensures.z;
-}
+pub returns-clause-value : goal.returns-clause-value
+returns-clause-value c =
+    let run = c.args.run.now in
+    two_parts c.inside_all.result c.sides_all.result _ _ c.inside_all.ensures.value c.sides_all.ensures.value ∙ loss_parts c.args.self.now run (run.to - run.from)
 
-pub loop-n-preserved : goal.loop-n-preserved
-loop-n-preserved c =
-    let l = c.loop-n in let cell = c.of_width-cell.ensures in
-    record {
-      value = one_more l.total c.cell_loss-total.result _ _ _ l.invariant.value c.cell_loss-total.ensures.value (loss_step c.args.self.now c.args.run.now l.n);
-      most = omega (arith, l.invariant.most, c.cell_loss-total.ensures.most);
-      lambda = cell.lambda ∙ l.invariant.lambda;
-      y = cell.y ∙ l.invariant.y;
-      z = cell.z ∙ l.invariant.z;
-    }
+pub returns-clause-most : goal.returns-clause-most
+returns-clause-most c = omega (arith, c.inside_all.ensures.most, c.sides_all.ensures.most)

@@ -24,4 +24,5 @@ invariant_of-result c =
       flows_low_z = q.low_z.flows;
       flows_high_z = q.high_z.flows;
       few = let most = axis.most in let m = subst (λ (lines : List ℕ). length lines ≤ 1024) x most in omega (arith, e, m);
+      room = let r = h.room in omega (arith, e, least2, r);
     }

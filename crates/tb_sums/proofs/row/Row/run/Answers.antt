@@ -1,13 +1,11 @@
-use Rattle.std.proofs.Common.{arith}
-use Rattle.tb_sums.proofs.Runs.{one_more, run_start, run_step}
+use Rattle.std.proofs.Common.{◌∙◌, ◌-◌, arith}
+use Rattle.tb_sums.proofs.Runs.{run_parts, two_parts}
 use Rattle.tb_sums.proofs.row.Row.run.Goals as goal
 
-pub loop-n-init : goal.loop-n-init
-loop-n-init c = record { value = run_start c.args.self.now c.args.run.now; most = omega arith }
+pub returns-clause-value : goal.returns-clause-value
+returns-clause-value c =
+    let run = c.args.run.now in
+    two_parts c.inside_all.result c.sides_all.result _ _ c.inside_all.ensures.value c.sides_all.ensures.value ∙ run_parts c.args.self.now run (run.to - run.from)
 
-pub loop-n-preserved : goal.loop-n-preserved
-loop-n-preserved c =
-    record {
-      value = one_more c.loop-n.total c.solid-total.result _ _ _ c.loop-n.invariant.value c.solid-total.ensures.value (run_step c.args.self.now c.args.run.now c.loop-n.n);
-      most = omega (arith, c.loop-n.invariant.most, c.solid-total.ensures.most);
-    }
+pub returns-clause-most : goal.returns-clause-most
+returns-clause-most c = omega (arith, c.inside_all.ensures.most, c.sides_all.ensures.most)

@@ -1,6 +1,0 @@
-use Rattle.std.proofs.Common.{◌≡◌, ◌*◌, ◌^◌, ◌≤◌, pos}
-use Rattle.tb_sums.specs.RunSums.{run_up}
-use Rattle.tb_sums.proofs.row.Row.run.Given as goal
-
-abbrev pub invariant-loop-n : goal.invariant-loop-n
-invariant-loop-n l = record { value : pos l.total ≡ run_up l.self l.run l.n; most : l.total ≤ l.n * 10 ^ 26 }

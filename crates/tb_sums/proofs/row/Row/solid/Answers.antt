@@ -1,7 +1,0 @@
-use Rattle.tb_sums.proofs.Runs.{solid_of}
-use Rattle.tb_sums.proofs.row.Row.solid.Goals as goal
-
-pub returns-clause-value : goal.returns-clause-value
-returns-clause-value c =
-    solid_of c.args.self.now c.args.run.now c.args.i _ _ _ _ _ _ _ _ c.requires.width c.corners-t.ensures.exact c.low_at.ensures.value c.high_at.ensures.value
-    c.solid_energy.ensures.value c.sides_x-x.ensures.value c.sides_y-y.ensures.value c.sides_z-z.ensures.value
