@@ -9,7 +9,7 @@ use std::alloc::Global;
 use tb_case_records::{
     BundleFault, BundleRefusal, CaseProof, CaseShape, RecordReader, read_case, take_words,
 };
-use tb_detail::{Detail, Environment, Name};
+use tb_detail::Detail;
 use tb_geometry::{Case, CaseList, cases};
 use tb_records::NoMemory;
 
@@ -22,18 +22,6 @@ pub struct Body<'a> {
     pub z: &'a [u32],
 }
 
-fn name_bytes(name: &Name) -> &[u8]
-    ensures { result.now ≡ name.now }
-{
-    &name.bytes
-}
-
-fn environments(detail: &Detail) -> &[Environment]
-    ensures { result.now ≡ detail.now.environments }
-{
-    &detail.environments.items
-}
-
 // The fields of the first record of the case of this set.
 fn case_words<'a>(alloc: Global, detail: &'a Detail, mask: u8) -> Result<Vec<&'a [u8]>, NoMemory>
     ensures { IfOk result (λ words. map (λ word. word.now) words.items ≡ codes "case" ∷ names_of_set mask detail.entry.now.environments) }
@@ -43,9 +31,9 @@ fn case_words<'a>(alloc: Global, detail: &'a Detail, mask: u8) -> Result<Vec<&'a
         return Err(NoMemory);
     };
     let mut left = mask;
-    for environment in environments(detail) {
+    for environment in detail.environments.items() {
         if left % 2 == 1 {
-            let Ok(_) = words.push(name_bytes(&environment.name)) else {
+            let Ok(_) = words.push(environment.name.bytes()) else {
                 return Err(NoMemory);
             };
         }
@@ -179,7 +167,7 @@ pub fn read_body(
     ensures { let d = body.entry.detail.now in
         MatchResult result (λ proofs. IsBody d reader.old.ahead proofs.items) (λ e. Refuses (body_fault d reader.old.ahead) e) }
 {
-    let count = environments(body.detail).len();
+    let count = body.detail.environments.items().len();
     if count < 2 {
         return Err(no_case(reader));
     }

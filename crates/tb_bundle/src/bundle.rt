@@ -14,7 +14,7 @@ use crate::body::{Body, read_body};
 use crate::detail::read_detail_part;
 use std::alloc::Global;
 use tb_case_records::{BundleFault, BundleRefusal, CaseProof, RecordReader, is_exactly};
-use tb_detail::{Detail, Items, SpaceBox};
+use tb_detail::{Detail, Items};
 use tb_geometry::base_lines;
 use tb_places::AxisName;
 use tb_reading::read_details_are_in_limits;
@@ -45,12 +45,6 @@ pub fn take_head(reader: &mut RecordReader) -> Result<(), BundleRefusal>
     }
 }
 
-fn boxes_of(detail: &Detail) -> &[SpaceBox]
-    ensures { result.now ≡ detail.now.boxes }
-{
-    &detail.boxes.items
-}
-
 // The cases of a detail.
 fn read_proofs(
     reader: &mut RecordReader,
@@ -62,13 +56,13 @@ fn read_proofs(
         (λ proofs. IsBody detail.now reader.old.ahead proofs.items)
         (λ e. Refuses (body_fault detail.now reader.old.ahead) e) }
 {
-    let Ok(x) = base_lines(alloc, AxisName::X, boxes_of(detail)) else {
+    let Ok(x) = base_lines(alloc, AxisName::X, detail.boxes.items()) else {
         return Err(BundleRefusal::NoMemory);
     };
-    let Ok(y) = base_lines(alloc, AxisName::Y, boxes_of(detail)) else {
+    let Ok(y) = base_lines(alloc, AxisName::Y, detail.boxes.items()) else {
         return Err(BundleRefusal::NoMemory);
     };
-    let Ok(z) = base_lines(alloc, AxisName::Z, boxes_of(detail)) else {
+    let Ok(z) = base_lines(alloc, AxisName::Z, detail.boxes.items()) else {
         return Err(BundleRefusal::NoMemory);
     };
     let body = Body {

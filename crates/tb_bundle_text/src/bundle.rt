@@ -11,7 +11,7 @@ ghost use Rattle.tb_bundle.specs.Limits.{BundleInLimits};
 ghost use Rattle.tb_bundle_text.specs.Canonical.{bundle_text, case_rows};
 ghost use Rattle.tb_bundle_text.specs.Writing.{HasAllValues};
 
-use crate::case::{put_case, slice_of};
+use crate::case::put_case;
 use crate::laws::written_bundles_read_back;
 use tb_bundle::Bundle;
 use tb_canonical::{put_detail, put_record};
@@ -45,8 +45,8 @@ pub fn put_bundle<K: Sink>(buffer: &mut OutputBuffer, sink: &mut K, bundle: &Bun
     put_cases(
         buffer,
         sink,
-        slice_of(&bundle.detail.environments),
-        slice_of(&bundle.cases),
+        bundle.detail.environments.items(),
+        bundle.cases.items(),
     );
     put_record(buffer, sink, b"end", &[]);
 }

@@ -10,25 +10,12 @@ use crate::record::put_numbers;
 use crate::values::{put_field, put_flux};
 use tb_canonical::put_record;
 use tb_case_records::{CaseProof, Verdict, counts_of, letter};
-use tb_detail::{Environment, Items, Name};
+use tb_detail::Environment;
 use tb_grid::Grid;
 use tb_numbers::{decimal, fixed};
 use tb_outside::{OutputBuffer, Sink};
 use tb_places::AxisName;
 use tb_terms::Interval;
-
-/// The items of a list.
-pub fn slice_of<T>(list: &Items<T>) -> &[T]
-    ensures { result.now ≡ list.now }
-{
-    &list.items
-}
-
-fn name_bytes(name: &Name) -> &[u8]
-    ensures { result.now ≡ name.now }
-{
-    &name.bytes
-}
 
 // Puts the first record of a case: the names of the environments of its set.
 fn put_case_row<K: Sink>(
@@ -43,7 +30,7 @@ fn put_case_row<K: Sink>(
     let mut left = mask;
     for environment in environments {
         if left % 2 == 1 {
-            buffer.put_pieces(sink, &[b",", name_bytes(&environment.name)]);
+            buffer.put_pieces(sink, &[b",", environment.name.bytes()]);
         }
         left /= 2;
     }
@@ -66,7 +53,8 @@ fn put_ends<K: Sink>(buffer: &mut OutputBuffer, sink: &mut K, ends: Interval)
     put_record(buffer, sink, b"interval", &[lo.as_bytes(), hi.as_bytes()]);
 }
 
-fn verdict_word(verdict: Verdict) -> &'static [u8]
+/// The word of a verdict.
+pub fn verdict_word(verdict: Verdict) -> &'static [u8]
     ensures { result.now ≡ verdict_word verdict }
 {
     match verdict {

@@ -17,6 +17,7 @@ mod tests;
 mod values;
 
 pub use bundle::{BundleText, put_bundle, write_bundle};
+pub use case::verdict_word;
 pub use laws::{
     read_bundles_are_written, written_axes_read_back, written_bundles_read_back,
     written_cases_read_back, written_values_read_back,

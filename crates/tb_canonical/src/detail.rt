@@ -8,7 +8,7 @@ ghost use Rattle.tb_detail.specs.Limits.{InLimits};
 ghost use Rattle.tb_reading.specs.Reading.{detail_reading, numbered};
 ghost use Rattle.tb_canonical.specs.Canonical.{canonical_text};
 
-use crate::fields::{dimension_text, slice_of};
+use crate::fields::dimension_text;
 use crate::laws::canonical_reads_back;
 use crate::record::put_record;
 use crate::things::put_each;
@@ -26,12 +26,12 @@ pub fn put_detail<K: Sink>(buffer: &mut OutputBuffer, sink: &mut K, detail: &Det
         b"detail",
         &[b"1", dimension_text(detail.dimension)],
     );
-    put_each(buffer, sink, detail, b"", slice_of(&detail.environments));
-    put_each(buffer, sink, detail, b"", slice_of(&detail.materials));
-    put_each(buffer, sink, detail, b"", slice_of(&detail.boxes));
-    put_each(buffer, sink, detail, b"", slice_of(&detail.parts));
-    put_each(buffer, sink, detail, b"", slice_of(&detail.psis));
-    put_each(buffer, sink, detail, b"", slice_of(&detail.chis));
+    put_each(buffer, sink, detail, b"", detail.environments.items());
+    put_each(buffer, sink, detail, b"", detail.materials.items());
+    put_each(buffer, sink, detail, b"", detail.boxes.items());
+    put_each(buffer, sink, detail, b"", detail.parts.items());
+    put_each(buffer, sink, detail, b"", detail.psis.items());
+    put_each(buffer, sink, detail, b"", detail.chis.items());
 }
 
 /// Writes the canonical text of a detail. It takes no memory. Where the sink fails, a front of the text was

@@ -4,23 +4,9 @@ ghost use Rattle.std.specs.Prelude.{◌≡◌, ◌<◌};
 ghost use Rattle.tb_canonical.specs.Canonical.{dimension_text, name_at, names_in, number, psi_number};
 ghost use Rattle.tb_reading.specs.declared.values.FieldValue.TheVariants.{Place};
 
-use tb_detail::{Detail, Items, Name, Quantity};
+use tb_detail::{Detail, Quantity};
 use tb_numbers::{NumberText, decimal, signed_decimal};
 use tb_reading::{FieldValue, NameKind, places};
-
-/// The items of a list.
-pub fn slice_of<T>(list: &Items<T>) -> &[T]
-    ensures { result.now ≡ list.now }
-{
-    &list.items
-}
-
-/// The bytes of a name.
-pub fn name_bytes(name: &Name) -> &[u8]
-    ensures { result.now ≡ name.now }
-{
-    &name.bytes
-}
 
 /// The name at a place, empty where there is none.
 pub fn name_at(detail: &Detail, kind: NameKind, place: u8) -> &[u8]
@@ -28,24 +14,24 @@ pub fn name_at(detail: &Detail, kind: NameKind, place: u8) -> &[u8]
 {
     let place = usize::from(place);
     match kind {
-        NameKind::Environment => match slice_of(&detail.environments).get(place) {
-            Some(environment) => name_bytes(&environment.name),
+        NameKind::Environment => match detail.environments.items().get(place) {
+            Some(environment) => environment.name.bytes(),
             None => b"",
         },
-        NameKind::Material => match slice_of(&detail.materials).get(place) {
-            Some(material) => name_bytes(&material.name),
+        NameKind::Material => match detail.materials.items().get(place) {
+            Some(material) => material.name.bytes(),
             None => b"",
         },
-        NameKind::Part => match slice_of(&detail.parts).get(place) {
-            Some(part) => name_bytes(&part.name),
+        NameKind::Part => match detail.parts.items().get(place) {
+            Some(part) => part.name.bytes(),
             None => b"",
         },
-        NameKind::Psi => match slice_of(&detail.psis).get(place) {
-            Some(psi) => name_bytes(&psi.name),
+        NameKind::Psi => match detail.psis.items().get(place) {
+            Some(psi) => psi.name.bytes(),
             None => b"",
         },
-        NameKind::Chi => match slice_of(&detail.chis).get(place) {
-            Some(chi) => name_bytes(&chi.name),
+        NameKind::Chi => match detail.chis.items().get(place) {
+            Some(chi) => chi.name.bytes(),
             None => b"",
         },
     }

@@ -8,7 +8,7 @@ ghost use Rattle.tb_detail.specs.Limits.{BoxInLimits, ChiInLimits, InLimits, Lay
 ghost use Rattle.tb_reading.specs.Kinds.{fields};
 ghost use Rattle.tb_canonical.specs.Canonical.{box_row, chi_rows, content_row, environment_row, layer_row, layer_values, line_row, material_row, names_in, part_rows, part_values, psi_rows, term_row};
 
-use crate::fields::{name_bytes, place, slice_of};
+use crate::fields::place;
 use crate::record::put_row;
 use tb_detail::{
     ChiItem, Content, Detail, Environment, Layer, LineTerm, Material, Part, PlanarTerm, PsiItem,
@@ -58,7 +58,7 @@ impl Written for Environment {
     ghost fits = { λ d e. Unit {0} };
 
     fn put<K: Sink>(&self, buffer: &mut OutputBuffer, sink: &mut K, detail: &Detail, _item: &[u8]) {
-        let name = name_bytes(&self.name);
+        let name = self.name.bytes();
         let values = [FieldValue::Nothing];
         put_row(buffer, sink, detail, RecordKind::Environment, name, &values);
     }
@@ -70,7 +70,7 @@ impl Written for Material {
     ghost fits = { λ d m. Unit {0} };
 
     fn put<K: Sink>(&self, buffer: &mut OutputBuffer, sink: &mut K, detail: &Detail, _item: &[u8]) {
-        let name = name_bytes(&self.name);
+        let name = self.name.bytes();
         let values = [FieldValue::Nothing, FieldValue::Number(self.lambda)];
         put_row(buffer, sink, detail, RecordKind::Material, name, &values);
     }
@@ -168,7 +168,7 @@ fn layer_values(layer: &Layer) -> Values
     let mut values = Values::new();
     values.push(FieldValue::Nothing);
     values.push(FieldValue::Number(layer.thickness));
-    for material in slice_of(&layer.materials) {
+    for material in layer.materials.items() {
         values.push(place(*material));
     }
     values
@@ -200,7 +200,7 @@ fn part_values(part: &Part) -> Values
     values.push(FieldValue::Nothing);
     values.push(FieldValue::Number(part.rsi));
     values.push(FieldValue::Number(part.rse));
-    for area in slice_of(&part.areas) {
+    for area in part.areas.items() {
         values.push(FieldValue::Number(*area));
     }
     values
@@ -212,7 +212,7 @@ impl Written for Part {
     ghost fits = { PartInLimits };
 
     fn put<K: Sink>(&self, buffer: &mut OutputBuffer, sink: &mut K, detail: &Detail, _item: &[u8]) {
-        let name = name_bytes(&self.name);
+        let name = self.name.bytes();
         let values = part_values(self);
         put_row(
             buffer,
@@ -222,7 +222,7 @@ impl Written for Part {
             name,
             values.as_slice(),
         );
-        put_each(buffer, sink, detail, name, slice_of(&self.layers));
+        put_each(buffer, sink, detail, name, self.layers.items());
     }
 }
 
@@ -275,7 +275,7 @@ impl Written for PsiItem {
     ghost fits = { PsiInLimits };
 
     fn put<K: Sink>(&self, buffer: &mut OutputBuffer, sink: &mut K, detail: &Detail, _item: &[u8]) {
-        let name = name_bytes(&self.name);
+        let name = self.name.bytes();
         let values = [
             FieldValue::Nothing,
             FieldValue::Place(self.first),
@@ -288,7 +288,7 @@ impl Written for PsiItem {
             detail,
             RecordKind::Length,
             name,
-            slice_of(&self.lengths),
+            self.lengths.items(),
         );
     }
 }
@@ -299,7 +299,7 @@ impl Written for ChiItem {
     ghost fits = { ChiInLimits };
 
     fn put<K: Sink>(&self, buffer: &mut OutputBuffer, sink: &mut K, detail: &Detail, _item: &[u8]) {
-        let name = name_bytes(&self.name);
+        let name = self.name.bytes();
         let values = [
             FieldValue::Nothing,
             FieldValue::Place(self.first),
@@ -312,8 +312,8 @@ impl Written for ChiItem {
             detail,
             RecordKind::Area,
             name,
-            slice_of(&self.areas),
+            self.areas.items(),
         );
-        put_each(buffer, sink, detail, name, slice_of(&self.lines));
+        put_each(buffer, sink, detail, name, self.lines.items());
     }
 }

@@ -12,4 +12,4 @@ mod texts;
 pub use checked::Checked;
 pub use checking::check;
 pub use fault::{CheckFault, CheckRefusal};
-pub use names::put_set_name;
+pub use names::{name_at, put_set_name};

@@ -4,27 +4,15 @@ ghost use Rattle.tb_model.specs.Values.{case_of};
 ghost use Rattle.tb_outside.specs.Buffers.{Gathers};
 ghost use Rattle.tb_checker.specs.Texts.{name_in_set, name_of, set_name};
 
-use tb_detail::{Detail, Environment, Name};
+use tb_detail::Detail;
 use tb_outside::{OutputBuffer, Sink};
 
-fn environments(detail: &Detail) -> &[Environment]
-    ensures { result.now ≡ detail.now.environments }
-{
-    &detail.environments.items
-}
-
-fn bytes_of(name: &Name) -> &[u8]
-    ensures { result.now ≡ name.now }
-{
-    &name.bytes
-}
-
-// The name of an environment.
-fn name_at(detail: &Detail, e: u8) -> &[u8]
+/// The name of an environment.
+pub fn name_at(detail: &Detail, e: u8) -> &[u8]
     requires { e < length detail.now.environments }
     ensures { result.now ≡ name_of detail.now e }
 {
-    bytes_of(&environments(detail)[usize::from(e)].name)
+    detail.environments.items()[usize::from(e)].name.bytes()
 }
 
 // Whether an environment is in a set.
@@ -60,7 +48,7 @@ pub fn put_set_name<K: Sink>(buffer: &mut OutputBuffer, sink: &mut K, detail: &D
     requires few { length detail.now.environments ≤ 4 }
     ensures { Gathers K.holds K.faults sink.old sink.new buffer.old (set_name detail.now set) buffer.new }
 {
-    for e in 0..environments(detail).len() {
+    for e in 0..detail.environments.items().len() {
         put_name(buffer, sink, detail, set, e as u8);
     }
 }

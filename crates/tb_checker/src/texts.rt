@@ -1,5 +1,5 @@
 // What is printed of a bundle.
-ghost use Rattle.std.specs.Prelude.{◌≡◌, ◌≤◌, length};
+ghost use Rattle.std.specs.Prelude.{◌≤◌, length};
 ghost use Rattle.tb_outside.specs.Buffers.{Gathers};
 ghost use Rattle.tb_checker.specs.Texts.{accepted_line, accepted_lines, accepted_text, fault_text};
 
@@ -31,18 +31,12 @@ fn put_accepted<K: Sink>(
     buffer.put_pieces(sink, &[b",", lo.as_bytes(), b",", hi.as_bytes(), b"\n"]);
 }
 
-fn cases_of(bundle: &Bundle) -> &[CaseProof]
-    ensures { result.now ≡ bundle.now.cases }
-{
-    &bundle.cases.items
-}
-
 // Puts a line for each case.
 fn put_lines<K: Sink>(buffer: &mut OutputBuffer, sink: &mut K, bundle: &Bundle)
     requires few { length bundle.now.detail.environments ≤ 4 }
     ensures { Gathers K.holds K.faults sink.old sink.new buffer.old (accepted_lines bundle.now) buffer.new }
 {
-    for proof in cases_of(bundle) {
+    for proof in bundle.cases.items() {
         put_accepted(buffer, sink, &bundle.detail, proof);
     }
 }

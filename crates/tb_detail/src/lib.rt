@@ -15,7 +15,7 @@
 //! `Detail::in_limits` tells.
 #![tactic(auto)]
 
-ghost use Rattle.std.specs.Prelude.{nat_eq};
+ghost use Rattle.std.specs.Prelude.{◌≡◌, nat_eq};
 ghost use Rattle.std.specs.Cmp.{partial_equiv_from_equiv};
 ghost use Rattle.std.specs.Cmp.Lexicographic.{lists_per, nat_list_eq_equiv, pointwise};
 
@@ -61,6 +61,15 @@ impl<T: PartialEq> PartialEq for Items<T> {
     }
 }
 
+impl<T> Items<T> {
+    /// The items.
+    pub fn items(&self) -> &[T]
+        ensures { result.now ≡ self.now }
+    {
+        &self.items
+    }
+}
+
 /// The name of a thing. Contracts see it as the list of its bytes.
 #[derive(Clone, Debug, Drop)]
 pub struct Name {
@@ -82,6 +91,15 @@ impl PartialEq for Name {
 
     fn eq(&self, other: &Name) -> bool {
         self.bytes == other.bytes
+    }
+}
+
+impl Name {
+    /// The bytes.
+    pub fn bytes(&self) -> &[u8]
+        ensures { result.now ≡ self.now }
+    {
+        &self.bytes
     }
 }
 

@@ -3,7 +3,7 @@ ghost use Rattle.std.specs.Prelude.{◌≡◌, length};
 ghost use Rattle.tb_detail.specs.Limits.{InLimits};
 
 use crate::base::base_grid;
-use crate::boxes::{boxes_of, first_overlap, has_solid};
+use crate::boxes::{first_overlap, has_solid};
 use crate::fault::{BodyFault, BodyRefusal};
 use crate::holders::covering;
 use crate::linking::linked;
@@ -11,7 +11,7 @@ use crate::occupant::{Occupant, occupants};
 use std::alloc::Global;
 use std::marker::Model;
 use std::snapshot::Snapshot;
-use tb_detail::{Detail, Material};
+use tb_detail::Detail;
 use tb_grid::Grid;
 
 /// A body: the boxes of a detail that has no fault. Contracts see it as the detail.
@@ -43,13 +43,6 @@ fn environments_of(detail: &Detail) -> usize
     detail.environments.items.len()
 }
 
-// The materials of a detail.
-fn materials_of(detail: &Detail) -> &[Material]
-    ensures { result.now ≡ detail.now.materials }
-{
-    detail.materials.items.as_slice()
-}
-
 impl Body {
     ghost use Rattle.tb_geometry.specs.Base.{base_axes};
     ghost use Rattle.tb_geometry.specs.Faults.{Answers, IsAccepted};
@@ -77,7 +70,7 @@ impl Body {
         if environments < 2 {
             return Err(BodyRefusal::Fault(BodyFault::TooFewEnvironments));
         }
-        let boxes = boxes_of(detail);
+        let boxes = detail.boxes.items();
         if !has_solid(boxes) {
             return Err(BodyRefusal::Fault(BodyFault::NoSolid));
         }
@@ -87,7 +80,7 @@ impl Body {
         }
         let holders = covering(alloc, &base, boxes)?;
         linked(alloc, detail, &base, holders.as_slice())?;
-        let occupants = occupants(alloc, materials_of(detail), boxes)?;
+        let occupants = occupants(alloc, detail.materials.items(), boxes)?;
         Ok(Body {
             detail: Snapshot::of(detail),
             base,

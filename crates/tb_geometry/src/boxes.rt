@@ -6,15 +6,8 @@ ghost use Rattle.tb_geometry.specs.Cubes.{AreApart, IsFirstOverlap};
 ghost use Rattle.tb_geometry.specs.Boxes.{is_solid, meet, meet_along};
 ghost use Rattle.tb_model.specs.Refinement.{high, low};
 
-use tb_detail::{Content, Detail, SpaceBox};
+use tb_detail::{Content, SpaceBox};
 use tb_grid::AxisName;
-
-/// The boxes of a detail.
-pub fn boxes_of(detail: &Detail) -> &[SpaceBox]
-    ensures { result.now ≡ detail.now.boxes }
-{
-    detail.boxes.items.as_slice()
-}
 
 /// Whether a box is filled with a material.
 pub fn is_solid(b: &SpaceBox) -> bool

@@ -6,7 +6,7 @@ ghost use Rattle.tb_geometry.specs.Cubes.{AreApart};
 ghost use Rattle.tb_geometry.specs.Outcomes.{Links};
 
 use crate::base::low_corner;
-use crate::boxes::{boxes_of, is_solid};
+use crate::boxes::is_solid;
 use crate::fault::{BodyFault, BodyRefusal};
 use std::alloc::{AllocError, Global};
 use tb_detail::{Detail, SpaceBox};
@@ -39,7 +39,7 @@ pub fn linked(
     requires holders { HasHolders detail.now.boxes holders.now }
     ensures { Links detail.now result }
 {
-    let solid = solid_cells(alloc, boxes_of(detail), holders)?;
+    let solid = solid_cells(alloc, detail.boxes.items(), holders)?;
     let found = first_isolated(alloc, base, solid.as_slice())?;
     match found {
         Some(cell) => {

@@ -11,7 +11,7 @@ ghost use Rattle.tb_planar.specs.Sections.{sections};
 ghost use Rattle.tb_planar.specs.Transmittance as exact;
 
 use crate::bounds::Bounds;
-use crate::sections::{areas, conductivity, layers, total_area, weighted_conductivity};
+use crate::sections::{conductivity, total_area, weighted_conductivity};
 use crate::{PlanarU, RatioAbove, URange};
 use tb_detail::{Detail, Layer, Part};
 use tb_numbers::{Rounding, Up};
@@ -52,7 +52,7 @@ fn section_resistance(detail: &Detail, part: &Part, section: usize) -> Bounds
     ensures size { IsResistance result }
 {
     let mut sum = surfaces(detail, part);
-    for layer in layers(part) {
+    for layer in part.layers.items() {
         sum = sum.plus(layer_in_section(detail, layer, section));
     }
     sum
@@ -73,7 +73,7 @@ fn mean_transmittance(detail: &Detail, part: &Part) -> Bounds
     ensures size { IsTransmittance result }
 {
     let mut sum = Bounds::exactly(0);
-    for (section, area) in areas(part).iter().enumerate() {
+    for (section, area) in part.areas.items().iter().enumerate() {
         sum = sum.plus(section_transmittance(detail, part, section).times(*area));
     }
     sum.divided(total_area(part))
@@ -111,7 +111,7 @@ fn lower_limit(detail: &Detail, part: &Part) -> Bounds
     ensures encloses { HoldsResistance result (exact.lower_limit detail.now part.now) }
 {
     let mut sum = surfaces(detail, part);
-    for layer in layers(part) {
+    for layer in part.layers.items() {
         sum = sum.plus(layer_across(detail, part, layer));
     }
     sum
@@ -175,17 +175,11 @@ fn of_part(detail: &Detail, part: &Part) -> Result<PlanarU, RatioAbove>
     ensures error { IfOk result (λ printed. HoldsError printed.error (exact.relative_error detail.now part.now)) }
     ensures size { IfOk result (λ printed. IsRange printed.u) }
 {
-    if areas(part).len() == 1 {
+    if part.areas.items().len() == 1 {
         Ok(of_one_section(detail, part))
     } else {
         of_several_sections(detail, part)
     }
-}
-
-pub(crate) fn parts(detail: &Detail) -> &[Part]
-    ensures { result.now ≡ detail.now.parts }
-{
-    &detail.parts.items
 }
 
 /// What is printed of the part in a place of a detail, or that the ratio of the limits of its resistance is
@@ -204,7 +198,7 @@ pub fn planar(detail: &Detail, part: u16) -> Result<PlanarU, RatioAbove>
     ensures refused { (p : Part) → slice_get detail.now.parts part ≡ Some p → IsErr result ↔ IsRatioAbove detail.now p }
     ensures size { IfOk result (λ printed. IsRange printed.u) }
 {
-    of_part(detail, &parts(detail)[usize::from(part)])
+    of_part(detail, &detail.parts.items()[usize::from(part)])
 }
 
 /// The lower limit of a part's resistance isn't above the upper one.
@@ -217,7 +211,7 @@ pub fn first_ratio_above(detail: &Detail) -> Option<u16>
     requires { InLimits detail.now }
     ensures { result ≡ position (is_ratio_above detail.now) detail.now.parts }
 {
-    for (place, part) in parts(detail).iter().enumerate() {
+    for (place, part) in detail.parts.items().iter().enumerate() {
         if of_part(detail, part).is_err() {
             return Some(place as u16);
         }

@@ -3,31 +3,7 @@ ghost use Rattle.std.specs.Prelude.{◌≡◌, ◌*◌, ◌^◌, ◌<◌, ◌≤
 ghost use Rattle.tb_planar.specs.Parts.{HasLayer, HasSections};
 ghost use Rattle.tb_planar.specs.Sections.{conductivity, sections, total_area, weighted_conductivity};
 
-use tb_detail::{Detail, Layer, Material, Part};
-
-pub(crate) fn areas(part: &Part) -> &[u32]
-    ensures { result.now ≡ part.now.areas }
-{
-    &part.areas.items
-}
-
-pub(crate) fn layers(part: &Part) -> &[Layer]
-    ensures { result.now ≡ part.now.layers }
-{
-    &part.layers.items
-}
-
-fn materials_of(layer: &Layer) -> &[u16]
-    ensures { result.now ≡ layer.now.materials }
-{
-    &layer.materials.items
-}
-
-fn materials(detail: &Detail) -> &[Material]
-    ensures { result.now ≡ detail.now.materials }
-{
-    &detail.materials.items
-}
+use tb_detail::{Detail, Layer, Part};
 
 /// The conductivity of a layer within a section, in 10⁻⁴ W/(m·K).
 pub(crate) fn conductivity(detail: &Detail, layer: &Layer, section: usize) -> u32
@@ -37,8 +13,8 @@ pub(crate) fn conductivity(detail: &Detail, layer: &Layer, section: usize) -> u3
     ensures positive { 0 < result }
     ensures at_most { result ≤ 5 * 10 ^ 6 }
 {
-    let place = materials_of(layer)[section];
-    materials(detail)[usize::from(place)].lambda
+    let place = layer.materials.items()[section];
+    detail.materials.items()[usize::from(place)].lambda
 }
 
 /// The area of all sections.
@@ -49,7 +25,7 @@ pub(crate) fn total_area(part: &Part) -> u32
     ensures at_most { result ≤ 4 * 10 ^ 6 }
 {
     let mut total = 0;
-    for area in areas(part) {
+    for area in part.areas.items() {
         total += *area;
     }
     total
@@ -75,7 +51,7 @@ pub(crate) fn weighted_conductivity(detail: &Detail, part: &Part, layer: &Layer)
     ensures at_most { result ≤ 2 * 10 ^ 13 }
 {
     let mut total = 0;
-    for (section, area) in areas(part).iter().enumerate() {
+    for (section, area) in part.areas.items().iter().enumerate() {
         total += weighted(*area, conductivity(detail, layer, section));
     }
     total

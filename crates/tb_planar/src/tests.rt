@@ -1,6 +1,5 @@
 // Expected values were worked out by hand from ISO 6946:2017: the whole numbers by unbounded arithmetic, in
 // decimals beside each.
-use crate::part::parts;
 use crate::{PlanarU, RatioAbove, URange, first_ratio_above, planar};
 use std::alloc::{AllocError, Global};
 use std::test::Fail;
@@ -88,7 +87,7 @@ fn detail_of(alloc: Global, lambdas: &[u32], parts: Items<Part>) -> Result<Detai
 }
 
 fn answer(detail: &Detail, part: u16) -> Option<Result<PlanarU, RatioAbove>> {
-    if detail.in_limits() && usize::from(part) < parts(detail).len() {
+    if detail.in_limits() && usize::from(part) < detail.parts.items().len() {
         Some(planar(detail, part))
     } else {
         None

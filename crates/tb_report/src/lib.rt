@@ -12,7 +12,6 @@ mod checked;
 mod ends;
 pub mod laws;
 mod lines;
-mod names;
 mod report;
 mod terms;
 mod values;

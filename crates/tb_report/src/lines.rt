@@ -9,9 +9,8 @@ ghost use Rattle.tb_report.specs.Limits.{IsReadable};
 ghost use Rattle.tb_report.specs.Texts.{case_line, coefficient_word, extremes_text, factor_line, value_line, verdict_text};
 
 use crate::ends::put_ends;
-use crate::names::name_at;
 use tb_bundle::{CaseProof, Verdict};
-use tb_checker::put_set_name;
+use tb_checker::{name_at, put_set_name};
 use tb_detail::Detail;
 use tb_factors::{Extremes, extremes_towards};
 use tb_geometry::Body;

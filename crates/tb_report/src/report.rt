@@ -12,12 +12,11 @@ ghost use Rattle.tb_report.specs.Values.{no_part};
 use crate::ends::put_ends;
 use crate::laws::certified_bundles_have_reports;
 use crate::lines::{coefficient_word, put_case, put_factor, put_value};
-use crate::names::{bytes_of, environments, name_at};
 use crate::terms::{chi_value, psi_value, u_of};
-use crate::values::{cases_of, intervals_of, pair_of};
+use crate::values::{intervals_of, pair_of};
 use tb_bundle::{Bundle, CaseProof};
-use tb_checker::Checked;
-use tb_detail::{ChiItem, Detail, Part, PsiItem};
+use tb_checker::{Checked, name_at};
+use tb_detail::Detail;
 use tb_geometry::Body;
 use tb_outside::{OutputBuffer, Sink, Text};
 use tb_terms::Interval;
@@ -74,7 +73,7 @@ fn put_pair<K: Sink>(
         (if nat_lt i j then pair_line detail.now intervals.now i j else []) buffer.new }
 {
     if i < j {
-        let count = environments(detail).len() as u8;
+        let count = detail.environments.items().len() as u8;
         let value = pair_of(intervals, count, i, j);
         let head = [
             coefficient_word(detail),
@@ -101,7 +100,7 @@ fn put_pairs_of<K: Sink>(
     ensures { Gathers K.holds K.faults sink.old sink.new buffer.old
         (joined (length detail.now.environments) (λ j. if nat_lt i j then pair_line detail.now intervals.now i j else [])) buffer.new }
 {
-    for j in 0..environments(detail).len() {
+    for j in 0..detail.environments.items().len() {
         put_pair(buffer, sink, detail, intervals, i, j as u8);
     }
 }
@@ -116,15 +115,9 @@ fn put_pairs<K: Sink>(
     requires intervals { AreIntervals (length detail.now.environments) intervals.now }
     ensures { Gathers K.holds K.faults sink.old sink.new buffer.old (pair_lines detail.now intervals.now) buffer.new }
 {
-    for i in 0..environments(detail).len() {
+    for i in 0..detail.environments.items().len() {
         put_pairs_of(buffer, sink, detail, intervals, i as u8);
     }
-}
-
-fn parts(detail: &Detail) -> &[Part]
-    ensures { result.now ≡ detail.now.parts }
-{
-    &detail.parts.items
 }
 
 // The line of the part in this place.
@@ -141,7 +134,7 @@ fn put_part<K: Sink>(buffer: &mut OutputBuffer, sink: &mut K, detail: &Detail, p
         buffer,
         sink,
         b"U,",
-        bytes_of(&parts(detail)[place].name),
+        detail.parts.items()[place].name.bytes(),
         value,
     );
 }
@@ -151,15 +144,9 @@ fn put_parts<K: Sink>(buffer: &mut OutputBuffer, sink: &mut K, detail: &Detail)
     requires unrefused { IsUnrefused detail.now }
     ensures { Gathers K.holds K.faults sink.old sink.new buffer.old (u_lines detail.now) buffer.new }
 {
-    for place in 0..parts(detail).len() {
+    for place in 0..detail.parts.items().len() {
         put_part(buffer, sink, detail, place);
     }
-}
-
-fn psis(detail: &Detail) -> &[PsiItem]
-    ensures { result.now ≡ detail.now.psis }
-{
-    &detail.psis.items
 }
 
 fn put_psis<K: Sink>(
@@ -174,16 +161,10 @@ fn put_psis<K: Sink>(
     requires intervals { AreIntervals (length detail.now.environments) intervals.now }
     ensures { Gathers K.holds K.faults sink.old sink.new buffer.old (psi_lines detail.now intervals.now) buffer.new }
 {
-    for item in psis(detail) {
+    for item in detail.psis.items() {
         let value = psi_value(detail, intervals, item);
-        put_value(buffer, sink, b"psi,", bytes_of(&item.name), value);
+        put_value(buffer, sink, b"psi,", item.name.bytes(), value);
     }
-}
-
-fn chis(detail: &Detail) -> &[ChiItem]
-    ensures { result.now ≡ detail.now.chis }
-{
-    &detail.chis.items
 }
 
 fn put_chis<K: Sink>(
@@ -198,9 +179,9 @@ fn put_chis<K: Sink>(
     requires intervals { AreIntervals (length detail.now.environments) intervals.now }
     ensures { Gathers K.holds K.faults sink.old sink.new buffer.old (chi_lines detail.now intervals.now) buffer.new }
 {
-    for item in chis(detail) {
+    for item in detail.chis.items() {
         let value = chi_value(detail, intervals, item);
-        put_value(buffer, sink, b"chi,", bytes_of(&item.name), value);
+        put_value(buffer, sink, b"chi,", item.name.bytes(), value);
     }
 }
 
@@ -217,7 +198,7 @@ fn put_factors_of<K: Sink>(
     requires readable { IsReadable detail.now case.now }
     ensures { Gathers K.holds K.faults sink.old sink.new buffer.old (factor_lines detail.now case.now) buffer.new }
 {
-    for e in 0..environments(detail).len() {
+    for e in 0..detail.environments.items().len() {
         put_factor(buffer, sink, detail, body, case, e as u8);
     }
 }
@@ -273,7 +254,7 @@ impl<'a> Text for Report<'a> {
 
     fn put<K: Sink>(&self, buffer: &mut OutputBuffer, sink: &mut K) {
         let detail = detail_of(self.bundle);
-        let cases = cases_of(self.bundle);
+        let cases = self.bundle.cases.items();
         let intervals = intervals_of(cases);
         buffer.put(sink, b"report,1\n");
         put_cases(buffer, sink, detail, cases);

@@ -7,7 +7,7 @@ ghost use Rattle.tb_report.specs.Limits.{AreIntervals, IsUnrefused};
 ghost use Rattle.tb_report.specs.Values.{chi_value, planar_term, psi_value, u_of};
 
 use crate::values::coupling;
-use tb_detail::{ChiItem, Detail, LineTerm, MOST_TERMS, PlanarTerm, PsiItem};
+use tb_detail::{ChiItem, Detail, MOST_TERMS, PlanarTerm, PsiItem};
 use tb_planar::{RatioAbove, URange, planar};
 use tb_psi::{chi, psi};
 use tb_terms::Interval;
@@ -55,24 +55,6 @@ fn terms_of(detail: &Detail, terms: &[PlanarTerm]) -> [(URange, u32); MOST_TERMS
     made
 }
 
-fn lengths_of(item: &PsiItem) -> &[PlanarTerm]
-    ensures { result.now ≡ item.now.lengths }
-{
-    &item.lengths.items
-}
-
-fn areas_of(item: &ChiItem) -> &[PlanarTerm]
-    ensures { result.now ≡ item.now.areas }
-{
-    &item.areas.items
-}
-
-fn lines_of(item: &ChiItem) -> &[LineTerm]
-    ensures { result.now ≡ item.now.lines }
-{
-    &item.lines.items
-}
-
 /// A linear transmittance.
 pub(crate) fn psi_value(detail: &Detail, intervals: &[Interval], item: &PsiItem) -> Interval
     requires limits { InLimits detail.now }
@@ -82,7 +64,7 @@ pub(crate) fn psi_value(detail: &Detail, intervals: &[Interval], item: &PsiItem)
     requires item { PsiInLimits detail.now item.now }
     ensures { result ≡ psi_value detail.now intervals.now item.now }
 {
-    let lengths = lengths_of(item);
+    let lengths = item.lengths.items();
     let terms = terms_of(detail, lengths);
     let pair = coupling(detail, intervals, item.first, item.second);
     psi(pair, &terms[..lengths.len()])
@@ -97,8 +79,8 @@ pub(crate) fn chi_value(detail: &Detail, intervals: &[Interval], item: &ChiItem)
     requires item { ChiInLimits detail.now item.now }
     ensures { result ≡ chi_value detail.now intervals.now item.now }
 {
-    let areas = areas_of(item);
+    let areas = item.areas.items();
     let terms = terms_of(detail, areas);
     let pair = coupling(detail, intervals, item.first, item.second);
-    chi(pair, &terms[..areas.len()], lines_of(item))
+    chi(pair, &terms[..areas.len()], item.lines.items())
 }

@@ -4,8 +4,7 @@ ghost use Rattle.tb_psi.specs.Transmittances.{IsPair};
 ghost use Rattle.tb_report.specs.Limits.{AreIntervals};
 ghost use Rattle.tb_report.specs.Values.{coupling, pair_interval};
 
-use crate::names::environments;
-use tb_bundle::{Bundle, CaseProof};
+use tb_bundle::CaseProof;
 use tb_conduct::pair;
 use tb_detail::Detail;
 use tb_terms::Interval;
@@ -14,12 +13,6 @@ use tb_terms::Interval;
 const MOST_CASES: usize = 7;
 
 const NOTHING: Interval = Interval { lo: 0, hi: 0 };
-
-pub(crate) fn cases_of(bundle: &Bundle) -> &[CaseProof]
-    ensures { result.now ≡ bundle.now.cases }
-{
-    &bundle.cases.items
-}
 
 /// The intervals of cases, in their order.
 pub(crate) fn intervals_of(cases: &[CaseProof]) -> [Interval; MOST_CASES]
@@ -53,7 +46,7 @@ pub(crate) fn coupling(detail: &Detail, intervals: &[Interval], i: u8, j: u8) ->
     ensures value { result ≡ coupling detail.now intervals.now i j }
     ensures size { IsPair result }
 {
-    let count = environments(detail).len() as u8;
+    let count = detail.environments.items().len() as u8;
     if i < j {
         pair_of(intervals, count, i, j)
     } else {

@@ -33,12 +33,6 @@ fn all_done(cases: &[CaseProof]) -> bool
     cases.iter().all(|case| case.verdict == Verdict::Done)
 }
 
-fn cases_of(bundle: &Bundle) -> &[CaseProof]
-    ensures { result.now ≡ bundle.now.cases }
-{
-    &bundle.cases.items
-}
-
 impl SolvedBundle {
     ghost use Rattle.tb_checker.specs.Contents.{AreCertified};
 
@@ -67,7 +61,7 @@ impl SolvedBundle {
     pub fn is_done(&self) -> bool
         ensures { result ≡ are_done self.now.cases }
     {
-        all_done(cases_of(self.bundle()))
+        all_done(self.bundle().cases.items())
     }
 }
 

@@ -1,5 +1,4 @@
 // A part that is refused.
-ghost use Rattle.std.specs.Prelude.{◌≡◌};
 ghost use Rattle.tb_uvalues.specs.Texts.{fault_text};
 
 use tb_detail::Name;
@@ -27,13 +26,7 @@ impl Text for UValueFault {
     fn put<K: Sink>(&self, buffer: &mut OutputBuffer, sink: &mut K) {
         buffer.put_pieces(
             sink,
-            &[b"refused,RatioAbove,part ", bytes_of(&self.part), b"\n"],
+            &[b"refused,RatioAbove,part ", self.part.bytes(), b"\n"],
         );
     }
-}
-
-pub(crate) fn bytes_of(name: &Name) -> &[u8]
-    ensures { result.now ≡ name.now }
-{
-    &name.bytes
 }

@@ -3,7 +3,6 @@ ghost use Rattle.tb_detail.specs.declared.Part.{Part};
 ghost use Rattle.tb_outside.specs.Buffers.{Gathers};
 ghost use Rattle.tb_uvalues.specs.Texts.{line};
 
-use crate::fault::bytes_of;
 use tb_detail::Part;
 use tb_numbers::{Down, Rounding, Up, fixed};
 use tb_outside::{OutputBuffer, Sink};
@@ -28,7 +27,7 @@ pub(crate) fn put_line<K: Sink>(
         sink,
         &[
             b"U,",
-            bytes_of(&part.name),
+            part.name.bytes(),
             b",",
             lo.as_bytes(),
             b",",

@@ -7,11 +7,11 @@ ghost use Rattle.tb_planar.specs.Printed.{IsRatioAbove, answer};
 ghost use Rattle.tb_uvalues.specs.Answers.{Answers, HasUValue, HaveUValues, IsFirstRefused, IsPartAt};
 ghost use Rattle.tb_uvalues.specs.Texts.{line_of, lines, list_text};
 
-use crate::fault::{UValueFault, UValueRefusal, bytes_of};
+use crate::fault::{UValueFault, UValueRefusal};
 use crate::line::put_line;
 use std::alloc::{AllocError, Global};
 use std::marker::Model;
-use tb_detail::{Detail, Name, Part};
+use tb_detail::{Detail, Name};
 use tb_outside::{OutputBuffer, Sink, Text};
 use tb_planar::{PlanarU, RatioAbove, planar};
 
@@ -34,12 +34,6 @@ impl Model for UValues {
     ghost invariant = { λ u. InLimits u.detail × HaveUValues u.detail };
 }
 
-fn parts(detail: &Detail) -> &[Part]
-    ensures { result.now ≡ detail.now.parts }
-{
-    &detail.parts.items
-}
-
 // What is printed of the part in this place, or that it is refused.
 fn value_at(detail: &Detail, place: usize) -> Result<PlanarU, RatioAbove>
     requires limits { InLimits detail.now }
@@ -57,7 +51,7 @@ fn first_refused(detail: &Detail) -> Option<usize>
     ensures first { MatchOption result (HaveUValues detail.now) (IsFirstRefused detail.now) }
     ensures known { IfSome result (λ place. place < length detail.now.parts) }
 {
-    for place in 0..parts(detail).len() {
+    for place in 0..detail.parts.items().len() {
         if value_at(detail, place).is_err() {
             return Some(place);
         }
@@ -71,7 +65,7 @@ fn refusal_at(alloc: Global, detail: &Detail, place: usize) -> UValueRefusal
     requires known { place < length detail.now.parts }
     ensures { Answers detail.now (Err result) }
 {
-    match copy_of(alloc, &parts(detail)[place].name) {
+    match copy_of(alloc, &detail.parts.items()[place].name) {
         Ok(part) => UValueRefusal::Fault(UValueFault { part }),
         Err(_) => UValueRefusal::NoMemory,
     }
@@ -80,7 +74,7 @@ fn refusal_at(alloc: Global, detail: &Detail, place: usize) -> UValueRefusal
 fn copy_of(alloc: Global, name: &Name) -> Result<Name, AllocError>
     ensures { IfOk result (λ copy. copy ≡ name.now) }
 {
-    let bytes = Vec::from_slice(alloc, bytes_of(name))?;
+    let bytes = Vec::from_slice(alloc, name.bytes())?;
     Ok(Name { bytes })
 }
 
@@ -135,7 +129,7 @@ fn put_lines<K: Sink>(buffer: &mut OutputBuffer, sink: &mut K, detail: &Detail)
     requires values { HaveUValues detail.now }
     ensures { Gathers K.holds K.faults sink.old sink.new buffer.old (lines detail.now) buffer.new }
 {
-    for (place, part) in parts(detail).iter().enumerate() {
+    for (place, part) in detail.parts.items().iter().enumerate() {
         put_line(buffer, sink, part, printed_at(detail, place));
     }
 }

@@ -1,6 +1,5 @@
 // `demo`: the interval of a section that is made from a number.
 ghost use Rattle.std.specs.Prelude.{◌≡◌, ◌≤◌, ◌*◌, IfOk};
-ghost use Rattle.tb_bundle_text.specs.Canonical.{verdict_word};
 ghost use Rattle.tb_demo.specs.Line.{demo_grading};
 ghost use Rattle.tb_demo.specs.Section.{section};
 ghost use Rattle.tb_detail.specs.Limits.{InLimits};
@@ -18,6 +17,7 @@ use crate::report::body_of;
 use itoa::Buffer;
 use std::alloc::Global;
 use tb_bundle::Verdict;
+use tb_bundle_text::verdict_word;
 use tb_demo::{demo_detail, demo_level, demo_sweeps, demo_width};
 use tb_detail::Detail;
 use tb_driver::solve;
@@ -119,16 +119,6 @@ fn search(alloc: Global, storeys: u8, body: &Body, level: &Grid) -> Result<DemoA
 }
 
 // ---- its text and its status
-
-fn verdict_word(verdict: Verdict) -> &'static [u8]
-    ensures { result.now ≡ verdict_word verdict }
-{
-    match verdict {
-        Verdict::Done => b"done",
-        Verdict::GridLimit => b"grid",
-        Verdict::SweepsSpent => b"sweeps",
-    }
-}
 
 impl Text for DemoAnswer {
     ghost text = { demo_text };

@@ -11,7 +11,7 @@ ghost use Rattle.thermal_cli.specs.Report.{AnswersToBundle, IsFirstRefused, Repo
 use crate::Status;
 use std::alloc::{AllocError, Global};
 use tb_checker::{CheckFault, CheckRefusal, Checked};
-use tb_detail::{Detail, Name, Part};
+use tb_detail::{Detail, Name};
 use tb_geometry::{Body, BodyRefusal};
 use tb_outside::{OutputBuffer, Sink, Text};
 use tb_planar::first_ratio_above;
@@ -71,29 +71,17 @@ fn fault_at(alloc: Global, detail: &Detail, place: u16) -> Result<ReportAnswer, 
     requires { Some place ≡ position (is_ratio_above detail.now) detail.now.parts }
     ensures { IfOk result (λ answer. (b : Bundle) → b.detail ≡ detail.now → AnswersToBundle b answer) }
 {
-    match copy_of(alloc, &parts(detail)[usize::from(place)].name) {
+    match copy_of(alloc, &detail.parts.items()[usize::from(place)].name) {
         Ok(part) => Ok(ReportAnswer::FaultOfPart(UValueFault { part })),
         Err(_) => Err(NoMemory),
     }
 }
 
-fn parts(detail: &Detail) -> &[Part]
-    ensures { result.now ≡ detail.now.parts }
-{
-    &detail.parts.items
-}
-
 fn copy_of(alloc: Global, name: &Name) -> Result<Name, AllocError>
     ensures { IfOk result (λ copy. copy ≡ name.now) }
 {
-    let bytes = Vec::from_slice(alloc, bytes_of(name))?;
+    let bytes = Vec::from_slice(alloc, name.bytes())?;
     Ok(Name { bytes })
-}
-
-fn bytes_of(name: &Name) -> &[u8]
-    ensures { result.now ≡ name.now }
-{
-    &name.bytes
 }
 
 /// The body of a detail that has one.

@@ -13,7 +13,7 @@ loop-environment-preserved g c =
     let p = names_at all c.args.mask i left e c.environment-item.is c.loop-environment-test.true c.loop-environment.invariant in
     elim c.if-left-eq1.branch [
       | then-left-eq1 w ↦ rw (w.buffer-is, w.sink-is)
-          (puts_name all c.args.mask e rest left p w.if-left-eq1.true (rw (append-nil w.name_bytes.result.now, w.name_bytes.ensures) at w.put_pieces.ensures))
+          (puts_name all c.args.mask e rest left p w.if-left-eq1.true (rw (append-nil w.bytes.result.now, w.bytes.ensures) at w.put_pieces.ensures))
       | else-left-eq1 w ↦ rw (w.buffer-is, w.sink-is) (puts_no_name all c.args.mask e rest left p w.if-left-eq1.false)
     ]
 

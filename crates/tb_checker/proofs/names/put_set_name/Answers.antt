@@ -10,5 +10,5 @@ loop-e-preserved g c = rw add-one (gathers_both c.loop-e.invariant c.put_name.en
 pub returns : goal.returns
 returns g c =
     let all : c.loop-e.e ≡ length c.args.detail.now.environments
-    = omega (arith, ap (λ (xs : List Environment). length xs) c.environments-e-end.ensures, c.loop-e-test.false, c.loop-e.auto.e-end) in
+    = omega (arith, ap (λ (xs : List Environment). length xs) c.items-e-end.ensures, c.loop-e-test.false, c.loop-e.auto.e-end) in
     gathers_same (ap (λ n. names_up_to c.args.detail.now c.args.set n) all) c.loop-e.invariant

@@ -9,6 +9,6 @@ loop-proof-preserved g c =
     let b = c.args.bundle.now in
     let p = c.proof-item.result in
     let at = c.loop-proof.proof-index in
-    let inside : at < length b.cases = omega (arith, ap (λ (xs : List CaseProof). length xs) c.cases_of-proof-items.ensures, c.loop-proof-test.true) in
-    gathers_next_item (accepted_line b.detail) b.cases at p (c.proof-item.is ∙ ap (λ (xs : List CaseProof). get_or xs at p) c.cases_of-proof-items.ensures) inside c.loop-proof.invariant
+    let inside : at < length b.cases = omega (arith, ap (λ (xs : List CaseProof). length xs) c.items-proof-items.ensures, c.loop-proof-test.true) in
+    gathers_next_item (accepted_line b.detail) b.cases at p (c.proof-item.is ∙ ap (λ (xs : List CaseProof). get_or xs at p) c.items-proof-items.ensures) inside c.loop-proof.invariant
     c.put_accepted.ensures

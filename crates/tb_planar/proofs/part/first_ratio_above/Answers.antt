@@ -10,8 +10,8 @@ pub returns-then-is_err : goal.returns-then-is_err
 returns-then-is_err c =
     let d = c.args.detail.now in
     let x = c.part-item.result in
-    let inside : c.loop-place.place < length d.parts = omega (arith, ap (λ (xs : List Part). length xs) c.parts-part-items.ensures, c.loop-place-test.true) in
-    let at = in_place d.parts c.parts-part-items.result.now c.loop-place.place c.loop-place.place x x c.parts-part-items.ensures refl c.loop-place-test.true c.part-item.is in
+    let inside : c.loop-place.place < length d.parts = omega (arith, ap (λ (xs : List Part). length xs) c.items-part-items.ensures, c.loop-place-test.true) in
+    let at = in_place d.parts c.items-part-items.result.now c.loop-place.place c.loop-place.place x x c.items-part-items.ensures refl c.loop-place-test.true c.part-item.is in
     let above : is_ratio_above d x ≡ true = sym (refusal d x) ∙ ap is_err (sym c.of_part.ensures.answer) ∙ sym c.is_err.ensures.value ∙ c.if-is_err.true in
     found (is_ratio_above d) d.parts c.loop-place.place x inside (λ k b. c.loop-place.invariant k x b) (rw at above)
 
@@ -24,11 +24,11 @@ loop-place-preserved c = λ k e b.
           let x = c.part-item.result in
           let here : k ≡ c.loop-place.place = omega arith in
           let below : is_ratio_above d x ≡ false = sym (refusal d x) ∙ ap is_err (sym c.of_part.ensures.answer) ∙ sym c.is_err.ensures.value ∙ c.if-is_err.false in
-          rw (in_place d.parts c.parts-part-items.result.now c.loop-place.place k x e c.parts-part-items.ensures here c.loop-place-test.true c.part-item.is) below
+          rw (in_place d.parts c.items-part-items.result.now c.loop-place.place k x e c.items-part-items.ensures here c.loop-place-test.true c.part-item.is) below
     ]
 
 pub returns : goal.returns
 returns c =
     let d = c.args.detail.now in
-    let all : length d.parts ≡ c.loop-place.place = omega (arith, ap (λ (xs : List Part). length xs) c.parts-part-items.ensures, c.loop-place-test.false) in
+    let all : length d.parts ≡ c.loop-place.place = omega (arith, ap (λ (xs : List Part). length xs) c.items-part-items.ensures, c.loop-place-test.false) in
     none_found (is_ratio_above d) d.parts no_part (λ k b. c.loop-place.invariant k no_part (omega (arith, all, b)))

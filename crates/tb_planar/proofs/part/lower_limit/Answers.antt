@@ -12,7 +12,7 @@ use Rattle.tb_planar.proofs.part.lower_limit.Goals as goal
 
 pub loop-layer-preserved : goal.loop-layer-preserved
 loop-layer-preserved c =
-    let x = layer_at c.args.part.now c.layers-layer-items.result.now c.loop-layer.layer-index c.layer-item.result c.layers-layer-items.ensures c.loop-layer-test.true c.layer-item.is in
+    let x = layer_at c.args.part.now c.items-layer-items.result.now c.loop-layer.layer-index c.layer-item.result c.items-layer-items.ensures c.loop-layer-test.true c.layer-item.is in
     let term = c.layer_across.ensures.value ∙ ap (λ (l : Layer). layer_across c.args.detail.now c.args.part.now l) x in
     let low = ap (λ (b : Bounds). b.low) c.plus-sum.ensures in
     let high = ap (λ (b : Bounds). b.high) c.plus-sum.ensures in
@@ -28,7 +28,7 @@ loop-layer-preserved c =
 pub returns-clause-value : goal.returns-clause-value
 unfolding lower_limit
 returns-clause-value c =
-    let last : c.loop-layer.layer-index ≡ layers c.args.part.now = omega (arith, ap (λ (l : List Layer). length l) c.layers-layer-items.ensures) in
+    let last : c.loop-layer.layer-index ≡ layers c.args.part.now = omega (arith, ap (λ (l : List Layer). length l) c.items-layer-items.ensures) in
     c.loop-layer.invariant.value
     ∙ ap (λ (n : ℕ). plus (surfaces c.args.part.now) (total n (λ j. layer_across c.args.detail.now c.args.part.now (layer c.args.part.now j)))) last
 

@@ -14,9 +14,9 @@ pub loop-section-preserved : goal.loop-section-preserved
 loop-section-preserved c =
     let p = c.args.part.now in
     let i = c.loop-section.section in
-    let at = area_at p c.areas-area-items.result.now i c.areas-area-items.ensures in
+    let at = area_at p c.items-area-items.result.now i c.items-area-items.ensures in
     let parts : HasSections p = search rules in
-    let range = area_in_range p c.areas-area-items.result.now i c.areas-area-items.ensures c.loop-section-test.true parts in
+    let range = area_in_range p c.items-area-items.result.now i c.items-area-items.ensures c.loop-section-test.true parts in
     let areas = total_next i (area p) (total_ℕ i (area p)) _ refl at in
     let term : c.times.result ≡ times (area p i) (section_transmittance c.args.detail.now p i) =
     c.times.ensures.value ∙ ap (λ (a : ℕ). times a c.section_transmittance.result) at ∙ ap (times (area p i)) c.section_transmittance.ensures.value in
@@ -36,7 +36,7 @@ pub returns-clause-value : goal.returns-clause-value
 unfolding mean_transmittance
 returns-clause-value c =
     let p = c.args.part.now in
-    let last : c.loop-section.section ≡ sections p = omega (arith, ap (λ (xs : List ℕ). length xs) c.areas-area-items.ensures) in
+    let last : c.loop-section.section ≡ sections p = omega (arith, ap (λ (xs : List ℕ). length xs) c.items-area-items.ensures) in
     c.divided.ensures
     ∙ ap (λ (b : Bounds). divided b c.total_area.result)
     (c.loop-section.invariant.value ∙ ap (λ (n : ℕ). total n (λ s. times (area p s) (section_transmittance c.args.detail.now p s))) last)
@@ -45,7 +45,7 @@ returns-clause-value c =
 pub returns-clause-size : goal.returns-clause-size
 returns-clause-size c =
     let p = c.args.part.now in
-    let last : c.loop-section.section ≡ sections p = omega (arith, ap (λ (xs : List ℕ). length xs) c.areas-area-items.ensures) in
+    let last : c.loop-section.section ≡ sections p = omega (arith, ap (λ (xs : List ℕ). length xs) c.items-area-items.ensures) in
     let all : total_ℕ c.loop-section.section (area p) ≡ c.total_area.result = ap (λ (n : ℕ). total_ℕ n (area p)) last ∙ sym c.total_area.ensures.value in
     let s = divided-size c.loop-section.sum c.total_area.result (10 ^ 8) (5 * 10 ^ 18) c.total_area.ensures.positive (omega (arith, ints, all))
     c.loop-section.invariant.ordered (omega (arith, ints, all)) in

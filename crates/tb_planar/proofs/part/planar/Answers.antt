@@ -6,7 +6,7 @@ use Rattle.tb_planar.proofs.part.planar.Goals as goal
 pub returns-clause-answer : goal.returns-clause-answer
 returns-clause-answer c = λ p e. c.of_part.ensures.answer
     ∙ ap (answer c.args.detail.now)
-    (part_is c.args.detail.now.parts c.parts.result.now c.args.part c.from.result c.index-parts-from.result p c.parts.ensures c.from.ensures c.index-parts-from.is e)
+    (part_is c.args.detail.now.parts c.items.result.now c.args.part c.from.result c.index-items-from.result p c.items.ensures c.from.ensures c.index-items-from.is e)
 
 pub returns-clause-refused : goal.returns-clause-refused
 returns-clause-refused c = λ p e. let same = returns-clause-answer c p e in rw (same, refusal c.args.detail.now p) (ratio_above c.args.detail.now p)

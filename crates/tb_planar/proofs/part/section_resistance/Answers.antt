@@ -10,7 +10,7 @@ use Rattle.tb_planar.proofs.part.section_resistance.Goals as goal
 
 pub loop-layer-preserved : goal.loop-layer-preserved
 loop-layer-preserved c =
-    let x = layer_at c.args.part.now c.layers-layer-items.result.now c.loop-layer.layer-index c.layer-item.result c.layers-layer-items.ensures c.loop-layer-test.true c.layer-item.is in
+    let x = layer_at c.args.part.now c.items-layer-items.result.now c.loop-layer.layer-index c.layer-item.result c.items-layer-items.ensures c.loop-layer-test.true c.layer-item.is in
     let term = c.layer_in_section.ensures.value ∙ ap (λ (l : Layer). layer_in_section c.args.detail.now l c.args.section) x in
     let low = ap (λ (b : Bounds). b.low) c.plus-sum.ensures in
     let high = ap (λ (b : Bounds). b.high) c.plus-sum.ensures in
@@ -26,6 +26,6 @@ loop-layer-preserved c =
 pub returns-clause-value : goal.returns-clause-value
 unfolding section_resistance
 returns-clause-value c =
-    let last : c.loop-layer.layer-index ≡ layers c.args.part.now = omega (arith, ap (λ (l : List Layer). length l) c.layers-layer-items.ensures) in
+    let last : c.loop-layer.layer-index ≡ layers c.args.part.now = omega (arith, ap (λ (l : List Layer). length l) c.items-layer-items.ensures) in
     c.loop-layer.invariant.value
     ∙ ap (λ (n : ℕ). plus (surfaces c.args.part.now) (total n (λ j. layer_in_section c.args.detail.now (layer c.args.part.now j) c.args.section))) last

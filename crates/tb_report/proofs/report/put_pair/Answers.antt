@@ -14,5 +14,5 @@ returns-then-i-j g c =
     let earlier : nat_lt c.args.i c.args.j ≡ true = grind (arith, nat_tests) in
     let head = rw (c.coefficient_word.ensures, c.name_at.ensures, c.name_at-then-i-j.ensures) at (simp append-nil at c.put_pieces.ensures) in
     let value : c.pair_of-value.result ≡ pair_interval (length c.args.detail.now.environments) c.args.intervals.now c.args.i c.args.j
-    = c.pair_of-value.ensures.value ∙ ap (λ (xs : List Environment). pair_interval (length xs) c.args.intervals.now c.args.i c.args.j) c.environments.ensures in
+    = c.pair_of-value.ensures.value ∙ ap (λ (xs : List Environment). pair_interval (length xs) c.args.intervals.now c.args.i c.args.j) c.items.ensures in
     rw earlier (gathers_both (gathers_both (gathers_same (four_pieces (coefficient_word c.args.detail.now) (name_of c.args.detail.now c.args.i) (codes ",") (name_of c.args.detail.now c.args.j)) head) (rw value at c.put_ends.ensures)) c.put.ensures.gathers)

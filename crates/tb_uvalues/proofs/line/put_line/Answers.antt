@@ -17,4 +17,4 @@ returns g c =
     let hi : c.as_bytes-2.result.now ≡ fixed_text 6 (ceiling c.args.value.u.hi (pos (10 ^ 9)))
     = c.as_bytes-2.ensures.bytes ∙ c.fixed-hi.ensures ∙ ap (fixed_text 6) (up ∙ c.div-2.ensures.value ∙ ap (λ z. ceiling z (pos (10 ^ 9))) h) in
     let error : c.as_bytes-3.result.now ≡ fixed_text 4 c.args.value.error = c.as_bytes-3.ensures.bytes ∙ c.fixed-error.ensures ∙ ap (fixed_text 4) e in
-    simp append_assoc (rw (c.bytes_of.ensures, lo, hi, error) at c.put_pieces.ensures)
+    simp append_assoc (rw (c.bytes.ensures, lo, hi, error) at c.put_pieces.ensures)

@@ -11,7 +11,7 @@ use Rattle.tb_uvalues.proofs.list.first_refused.Goals as goal
 pub returns-then-is_err-clause-first : goal.returns-then-is_err-clause-first
 returns-then-is_err-clause-first c =
     let parts = c.args.detail.now.parts in
-    let inside : c.loop-place.place < length parts = omega (arith, ap (λ (xs : List Part). length xs) c.parts-place-end.ensures, c.loop-place-test.true) in
+    let inside : c.loop-place.place < length parts = omega (arith, ap (λ (xs : List Part). length xs) c.items-place-end.ensures, c.loop-place-test.true) in
     let there = slice_get-get_or parts c.loop-place.place no_part inside in
     record {
       part = get_or parts c.loop-place.place no_part;
@@ -33,4 +33,4 @@ loop-place-preserved c = λ n p b there.
 pub returns-clause-first : goal.returns-clause-first
 returns-clause-first c = λ n p there.
     let within = slice_get_within c.args.detail.now.parts n p there in
-    c.loop-place.invariant n p (omega (arith, within, ap (λ (xs : List Part). length xs) c.parts-place-end.ensures, c.loop-place-test.false)) there
+    c.loop-place.invariant n p (omega (arith, within, ap (λ (xs : List Part). length xs) c.items-place-end.ensures, c.loop-place-test.false)) there

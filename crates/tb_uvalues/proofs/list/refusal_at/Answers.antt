@@ -6,9 +6,9 @@ use Rattle.tb_uvalues.proofs.list.refusal_at.Goals as goal
 pub returns-in-Ok : goal.returns-in-Ok
 returns-in-Ok c =
     let first = c.requires.first in
-    let same = part_is c.args.detail.now.parts c.parts.result.now c.args.place c.args.place c.index-parts-place.result first.part c.parts.ensures refl c.index-parts-place.is first.there in
+    let same = part_is c.args.detail.now.parts c.items.result.now c.args.place c.args.place c.index-items-place.result first.part c.items.ensures refl c.index-items-place.is first.there in
     record {
       place = c.args.place;
       first = first;
-      named = c.in-Ok.ensures ∙ ap (λ (p : Part). p.name) (sym c.index-parts-place.is ∙ same);
+      named = c.in-Ok.ensures ∙ ap (λ (p : Part). p.name) (sym c.index-items-place.is ∙ same);
     }

@@ -5,5 +5,5 @@ use Rattle.tb_canonical.proofs.things.ChiItemWritten.put.Goals as goal
 
 pub returns : goal.returns
 returns g c = gathers_same (chi_text (names_in c.args.detail.now) c.args.self.now)
-    (gathers_both (gathers_both (rw c.name_bytes-name.ensures at c.put_row.ensures) (rw (c.slice_of.ensures, c.name_bytes-name.ensures) at c.put_terms.ensures))
-    (rw (c.slice_of-2.ensures, c.name_bytes-name.ensures) at c.put_each.ensures))
+    (gathers_both (gathers_both (rw c.bytes-name.ensures at c.put_row.ensures) (rw (c.items.ensures, c.bytes-name.ensures) at c.put_terms.ensures))
+    (rw (c.items-2.ensures, c.bytes-name.ensures) at c.put_each.ensures))

@@ -5,4 +5,4 @@ use Rattle.tb_canonical.proofs.things.PartWritten.put.Goals as goal
 
 pub returns : goal.returns
 returns g c = gathers_same (part_text (names_in c.args.detail.now) c.args.self.now)
-    (gathers_both (rw (c.as_slice.ensures, c.part_values-values.ensures, c.name_bytes-name.ensures) at c.put_row.ensures) (rw (c.slice_of.ensures, c.name_bytes-name.ensures) at c.put_each.ensures))
+    (gathers_both (rw (c.as_slice.ensures, c.part_values-values.ensures, c.bytes-name.ensures) at c.put_row.ensures) (rw (c.items.ensures, c.bytes-name.ensures) at c.put_each.ensures))

@@ -4,7 +4,7 @@ use Rattle.tb_report.proofs.report.ReportText.put.Goals as goal
 pub returns : goal.returns
 returns g c =
     let detail = c.detail_of-detail.ensures in
-    let cases = c.cases_of-cases.ensures in
+    let cases = c.items-cases.ensures in
     let intervals = c.intervals_of-intervals.ensures in
     let lines = rw (detail, cases) at c.put_cases.ensures in
     let figures = rw (detail, intervals, cases) at c.put_figures.ensures in
